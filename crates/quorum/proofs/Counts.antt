@@ -133,6 +133,10 @@ count-none n p h =
 
 -- ---- a loop that counts
 
+pub count-zero : (p : ℕ → Bool) → count 0 p ≡ 0
+unfolding count
+count-zero p = refl
+
 pub count-more : (n : ℕ) (p : ℕ → Bool) → count (n + 1) p ≡ count n p + one (p n)
 unfolding count
 count-more n p = rw add-one
@@ -174,9 +178,9 @@ lowest-unique n p i low = same (lowest n p) (lowest-is n p)
         elim (cases-lt i j) [
           | inl l ↦ absurd (is .before i l (low .passes (omega (arith, is .within))))
           | inr l ↦ elim (cases-lt j i) [
-              | inl k ↦ absurd (low .before j k (is .passes (omega (arith, low .within))))
-              | inr k ↦ omega arith
-            ]
+            | inl k ↦ absurd (low .before j k (is .passes (omega (arith, low .within))))
+            | inr k ↦ omega arith
+          ]
         ]
 
 pub lowest-same : (n : ℕ) (p q : ℕ → Bool) → ((i : ℕ) → i < n → p i ≡ q i) → lowest n p ≡ lowest n q
@@ -193,7 +197,7 @@ pub lowest-some : (n : ℕ) (p : ℕ → Bool) (i : ℕ) → i < n → T (p i) �
 lowest-some n p i l t =
     let low = lowest-is n p in
     let inside : lowest n p < n =
-        elim (cases-lt (lowest n p) n) [ inl k ↦ k | inr k ↦ absurd (low .before i (omega arith) t) ] in
+    elim (cases-lt (lowest n p) n) [ inl k ↦ k | inr k ↦ absurd (low .before i (omega arith) t) ] in
     (inside, low .passes inside)
 
 pub lowest-none : (n : ℕ) (p : ℕ → Bool) → ((i : ℕ) → i < n → T (p i) → ⊥) → lowest n p ≡ n

@@ -1,2 +1,4 @@
 pub mod Entries
+pub mod Majority
+pub mod Lead
 pub mod Order

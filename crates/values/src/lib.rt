@@ -10,7 +10,9 @@ pub mod entries;
 // A reading, a state or a command. Two values are the same exactly when they mean the same.
 pub trait Value: Copy {
     ghost Meaning: { Type 0 };
+
     ghost means: { Self → Meaning };
+
     ghost alike: { Self → Self → Bool };
 
     law sameness: { (x y : Self) → Decides (alike x y) (means x ≡ means y) };
@@ -24,7 +26,9 @@ pub trait Ordered: Value {
     ghost leq: { Self → Self → Bool };
 
     law total: { (x y : Self) → T (leq x y || leq y x) };
+
     law transitive: { (x y z : Self) → T (leq x y) → T (leq y z) → T (leq x z) };
+
     law congruent: { (x y : Self) → Self·Value .means x ≡ Self·Value .means y → T (leq x y) };
 
     fn at_most(&self, other: &Self) -> bool
@@ -35,13 +39,17 @@ pub trait Ordered: Value {
 // A control program: a reading steps its state, and a state gives its command.
 pub trait Application {
     type Reading: Value;
+
     type State: Value;
+
     type Command: Value;
 
     ghost stepped: { Self → Self·State → Self·Reading → Self·State };
+
     ghost commanded: { Self → Self·State → Self·Command };
 
     law stepping: { (a : Self) (s t : Self·State) (x y : Self·Reading) → State·Value .means s ≡ State·Value .means t → Reading·Value .means x ≡ Reading·Value .means y → State·Value .means (stepped a s x) ≡ State·Value .means (stepped a t y) };
+
     law commanding: { (a : Self) (s t : Self·State) → State·Value .means s ≡ State·Value .means t → Command·Value .means (commanded a s) ≡ Command·Value .means (commanded a t) };
 
     fn step(&self, state: &Self::State, reading: &Self::Reading) -> Self::State

@@ -52,7 +52,7 @@ pub fn presence<E: Entries>(entries: &E) -> usize
 {
     let mut count = 0;
     for i in 0..entries.len() {
-        if let Entry::Present(_) = entries.at(i) {
+        if entries.at(i).is_present() {
             count += 1;
         }
     }

@@ -3,6 +3,7 @@ ghost use mathlib.Core.Path.{_≡_};
 ghost use mathlib.Core.Bool.{Bool, _||_};
 ghost use lib.Dec.{T};
 ghost use Rattle.std.specs.Orderings.{Decides};
+ghost use Rattle.values.specs.Entries.{present};
 ghost use Rattle.values.specs.Order.{BothWays};
 
 pub mod entries;
@@ -64,4 +65,15 @@ pub trait Application {
 pub enum Entry<T> {
     Missing,
     Present(T),
+}
+
+impl<T> Entry<T> {
+    pub fn is_present(&self) -> bool
+        ensures { λ r. ⌜ r ≡ present (now (self .entry)) ⌝ }
+    {
+        match self {
+            Entry::Present(_) => true,
+            Entry::Missing => false,
+        }
+    }
 }

@@ -1,0 +1,3 @@
+pub mod Sensors
+pub mod Middle
+pub mod Picking

@@ -1,0 +1,2 @@
+// The applications that ship with the engine.
+pub mod wheel;

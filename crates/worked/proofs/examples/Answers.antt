@@ -1,0 +1,16 @@
+use mathlib.Core.Path.{_≡_, _∙_}
+use borrow.Author.Needs.{needs}
+use Rattle.worked.proofs.Computed.{two-to-one, one-to-one, mid-is-one, same-is, worked}
+use Rattle.worked.proofs.examples.Needs as need
+
+pub returns : need.returns
+returns c = record {
+  worked = worked (c .args .a) (c .args .b);
+  two = λ differ. same-is _ _ (c .majority .ensures .defined) ∙ two-to-one (c .args .a) (c .args .b) differ;
+  one = λ differ. same-is _ _ (c .majority-2 .ensures .defined) ∙ one-to-one (c .args .a) (c .args .b) differ;
+  middle = c .choose .ensures .value ∙ mid-is-one;
+  lowest = search needs;
+  minus-one = search needs;
+  short = search needs;
+  held = search needs;
+}

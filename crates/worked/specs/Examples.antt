@@ -1,0 +1,39 @@
+-- The examples worked out by hand, about the definitions that the contracts cite.
+use mathlib.Core.Path.{_≡_}
+use mathlib.Core.List.{List, [], _∷_}
+use Prim.Native.Nat.{ℕ}
+use lib.IntN.{ℤ, pos, negsuc}
+use lib.ListN.{length}
+use lib.Signed.{leZ}
+use Rattle.values.specs.Entries.{entryAt}
+use Rattle.values.specs.Majority.{majority}
+use Rattle.values.specs.declared.Entry.{Entry}
+use Rattle.values.specs.declared.Entry.the-variants.{Present, Missing}
+use Rattle.selections.specs.Rules.{midValue}
+use Rattle.applications.specs.Wheel.{turned, torqueOf, equalℤ}
+use Rattle.applications.specs.declared.wheel.Count.{Count}
+
+-- the majority of a list of counts
+abbrev pub majorityOf : List (Entry Count) → Entry Count
+majorityOf entries = majority (λ x y. equalℤ (x .value) (y .value)) (length entries) (entryAt entries)
+
+-- the sensor that the mid-value rule chooses on counts
+abbrev pub midOf : List (Entry Count) → ℕ
+midOf = midValue (λ x y. leZ (x .value) (y .value))
+
+abbrev pub counted : ℤ → Entry Count
+counted z = Present record { value = z }
+
+-- sensor 0 reads 7 and sensor 1 reads −3
+abbrev pub sevenAndMinusThree : List (Entry Count)
+sevenAndMinusThree = counted (pos 7) ∷ (counted (negsuc 2) ∷ [])
+
+-- a and b stand for any two counts
+pub record Worked (a b : Count) : Type 0 where
+  pub two-to-one : (a ≡ b → ⊥) → majorityOf (Present a ∷ (Present a ∷ (Present b ∷ []))) ≡ Present a
+  pub one-to-one : (a ≡ b → ⊥) → majorityOf (Present a ∷ (Present b ∷ [])) ≡ Missing
+  pub middle : entryAt sevenAndMinusThree (midOf sevenAndMinusThree) ≡ counted (negsuc 2)
+  pub torque-lowest : torqueOf (negsuc 2147483647) ≡ pos 32767
+  pub torque-minus-one : torqueOf (negsuc 0) ≡ pos 0
+  pub torque-short : torqueOf (pos 65535) ≡ pos 0
+  pub step-held : turned (pos 2147483647) (pos 1) ≡ pos 2147483647

@@ -1,1 +1,4 @@
 pub mod Wheel
+pub mod Levels
+pub mod Steps
+pub mod Thrusts

@@ -1,0 +1,49 @@
+-- What the processors of the demonstration send.
+use mathlib.Core.Path.{_≡_}
+use mathlib.Core.Bool.{Bool, true, false, cond, not}
+use mathlib.Core.List.{List, [], _∷_}
+use Prim.Native.Nat.{ℕ, zero, suc, _*_, _<_}
+use lib.Dec.{T}
+use lib.IntN.{ℤ, pos}
+use lib.ListN.{length}
+use Rattle.quorum.specs.Counting.{count}
+use Rattle.values.specs.declared.Entry.{Entry}
+use Rattle.values.specs.declared.Entry.the-variants.{Present, Missing}
+use Rattle.applications.specs.Wheel.{turned, torqueOf}
+use Rattle.applications.specs.declared.wheel.Count.{Count}
+use Rattle.applications.specs.declared.wheel.Torque.{Torque}
+use Rattle.demo.specs.declared.processors.Processor.{Processor}
+
+-- what a lying processor sends, whatever its state
+abbrev pub lie : ℤ
+lie = pos 7
+
+-- the command that a processor sends
+abbrev pub sent : Processor → Torque
+sent p = record { value = cond (p .lies) lie (torqueOf (p .state .value)) }
+
+-- what each of a list of processors sends
+abbrev pub sentAt : List Processor → ℕ → Entry Torque
+sentAt [] i = Missing
+sentAt (p ∷ ps) zero = Present (sent p)
+sentAt (p ∷ ps) (suc i) = sentAt ps i
+
+-- the processor at place i is there, and tells the truth
+abbrev pub soundAt : List Processor → ℕ → Bool
+soundAt [] i = false
+soundAt (p ∷ ps) zero = not (p .lies)
+soundAt (p ∷ ps) (suc i) = soundAt ps i
+
+-- every sound processor holds the state s
+abbrev pub Hold : List Processor → Count → Type 0
+Hold [] s = Unit {0}
+Hold (p ∷ ps) s = (T (not (p .lies)) → p .state ≡ s) × Hold ps s
+
+-- a state after a reading, if there is one
+abbrev pub after : Count → Entry Count → Count
+after s Missing = s
+after s (Present x) = record { value = turned (s .value) (x .value) }
+
+-- more than half of the processors are sound
+abbrev pub MostSound : List Processor → Type 0
+MostSound ps = length ps < 2 * count (length ps) (soundAt ps)

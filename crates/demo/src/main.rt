@@ -1,0 +1,3 @@
+mod processors;
+
+fn main(rt: LibcRuntime) {}

@@ -1,2 +1,3 @@
 pub mod FloatOrder
 pub mod LevelLaws
+pub mod WheelLaws

@@ -1,3 +1,117 @@
+// Four processors and three redundant sensors: one sensor is wrong, one processor lies, and the vote still stands.
+// Each line of the input is a cycle: the sensors' readings, or `-` for one that gives none.
+use applications::wheel::Count;
+use applications::wheel::Torque;
+use processors::Processor;
+use processors::cycle;
+use selections::NO_SENSOR;
+use std::error::AnyError;
+use values::Entry;
+use values::EntryClone;
+
 mod processors;
 
-fn main(rt: LibcRuntime) {}
+// One word of a line.
+fn entry_of(word: &str) -> Result<Entry<Count>, AnyError> {
+    if word == "-" {
+        return Ok(Entry::Missing);
+    }
+    let value = word.parse::<i32>()?;
+    Ok(Entry::Present(Count { value }))
+}
+
+// The readings of one cycle.
+fn readings_of(line: &str) -> Result<[Entry<Count>; 3], AnyError> {
+    let mut readings = [Entry::Missing; 3];
+    let mut sensor = 0;
+    for word in line.split_whitespace() {
+        if sensor >= 3 {
+            return Err("a cycle has three readings, and a line has more".into());
+        }
+        readings[sensor] = entry_of(word)?;
+        sensor += 1;
+    }
+    if sensor < 3 {
+        return Err("a cycle has three readings, and a line has fewer".into());
+    }
+    Ok(readings)
+}
+
+fn show_readings(rt: &LibcRuntime, readings: &[Entry<Count>]) -> Result<(), AnyError> {
+    print!(rt, "  readings")?;
+    for e in readings {
+        match e {
+            Entry::Present(x) => {
+                let value = x.value;
+                print!(rt, " {value}")?;
+            }
+            Entry::Missing => print!(rt, " -")?,
+        }
+    }
+    println!(rt, "")?;
+    Ok(())
+}
+
+fn show_commands(rt: &LibcRuntime, processors: &[Processor]) -> Result<(), AnyError> {
+    print!(rt, "  commands")?;
+    for p in processors {
+        let torque = p.send().value;
+        print!(rt, " {torque}")?;
+    }
+    println!(rt, "")?;
+    Ok(())
+}
+
+fn show_vote(rt: &LibcRuntime, vote: Entry<Torque>) -> Result<(), AnyError> {
+    match vote {
+        Entry::Present(torque) => {
+            let value = torque.value;
+            println!(rt, "  vote {value}")?;
+        }
+        Entry::Missing => println!(rt, "  no majority: safe mode")?,
+    }
+    Ok(())
+}
+
+// Runs one cycle and prints it.
+fn show_cycle(
+    rt: &LibcRuntime,
+    processors: &mut [Processor],
+    readings: &[Entry<Count>; 3],
+) -> Result<(), AnyError> {
+    show_readings(rt, readings)?;
+    let outcome = cycle(processors, readings);
+    if outcome.chosen == NO_SENSOR {
+        println!(rt, "  chosen none")?;
+    } else {
+        let chosen = outcome.chosen;
+        println!(rt, "  chosen sensor {chosen}")?;
+    }
+    show_commands(rt, processors)?;
+    show_vote(rt, outcome.vote)
+}
+
+// Runs a cycle for each line of the input.
+fn run_cycles(rt: &LibcRuntime, processors: &mut [Processor]) -> Result<(), AnyError> {
+    let mut number: u32 = 0;
+    for line in rt.lines(rt.alloc()) {
+        let readings = readings_of(line?.as_str())?;
+        number = number.saturating_add(1);
+        println!(rt, "cycle {number}")?;
+        show_cycle(rt, processors, &readings)?;
+    }
+    Ok(())
+}
+
+fn main(rt: LibcRuntime) -> Result<(), AnyError> {
+    let sound = Processor {
+        state: Count { value: 0 },
+        lies: false,
+    };
+    let liar = Processor {
+        state: Count { value: 0 },
+        lies: true,
+    };
+    let mut processors = [sound, sound, sound, liar];
+    rt.report(run_cycles(&rt, &mut processors))
+}

@@ -32,6 +32,13 @@ module _ {V M : Type 0} (means : V → M) where
   same-present (Present x) Missing h = absurd h
   same-present (Present x) (Present y) h = refl
 
+  -- where only equal values mean the same, entries that are the same are equal
+  pub same-equal : ((x y : V) → means x ≡ means y → x ≡ y) → (e d : Entry V) → SameEntry means e d → e ≡ d
+  same-equal equal Missing Missing h = refl
+  same-equal equal Missing (Present y) h = absurd h
+  same-equal equal (Present x) Missing h = absurd h
+  same-equal equal (Present x) (Present y) h = ap (λ (z : V). Present z) (equal x y h)
+
 module _ {V M : Type 0} (means : V → M) (alike : V → V → Bool) (law : (x y : V) → Decides (alike x y) (means x ≡ means y)) where
   pub carries-same : (x : V) (e : Entry V) → T (carries alike x e) → SameEntry means e (Present x)
   carries-same x Missing t = absurd t

@@ -1,35 +1,23 @@
 -- The examples, computed.
-use mathlib.Core.Path.{_≡_, refl, sym, ap, subst, _∙_}
-use mathlib.Core.Bool.{Bool, true, false}
+use mathlib.Core.Path.{_≡_, refl, sym}
+use mathlib.Core.Bool.{true, false}
 use mathlib.Core.List.{[], _∷_}
-use Prim.Native.Nat.{ℕ}
-use native.Mathlib.Omega.{arith}
-use lib.Dec.{T}
-use lib.IntN.{ℤ, pos, negsuc}
-use Rattle.std.proofs.shelf.Signed.{ints}
 use Rattle.quorum.specs.Counting.{count, lowest}
-use Rattle.values.specs.Entries.{SameEntry}
 use Rattle.values.specs.Majority.{majority}
-use Rattle.values.specs.declared.Entry.{Entry}
 use Rattle.values.specs.declared.Entry.the-variants.{Present, Missing}
 use Rattle.selections.specs.Rules.{midValue}
 use Rattle.applications.specs.Wheel.{equalℤ}
 use Rattle.applications.specs.declared.wheel.Count.{Count}
+use Rattle.applications.proofs.WheelLaws.{equal-refl, unequal, count-equal}
 use Rattle.worked.specs.Examples.{majorityOf, midOf, sevenAndMinusThree, Worked}
-
-equal-refl : (z : ℤ) → equalℤ z z ≡ true
-equal-refl z = grind (arith, ints)
-
-unequal : (x y : ℤ) → (x ≡ y → ⊥) → equalℤ x y ≡ false
-unequal x y h = grind (arith, ints)
 
 -- the four tests that the examples turn on
 module _ (a b : Count) (differ : a ≡ b → ⊥) where
   ab : equalℤ (a .value) (b .value) ≡ false
-  ab = unequal (a .value) (b .value) (λ e. differ (ap (λ (z : ℤ). record { value = z }) e))
+  ab = unequal (a .value) (b .value) (λ e. differ (count-equal a b e))
 
   ba : equalℤ (b .value) (a .value) ≡ false
-  ba = unequal (b .value) (a .value) (λ e. differ (ap (λ (z : ℤ). record { value = z }) (sym e)))
+  ba = unequal (b .value) (a .value) (λ e. differ (sym (count-equal b a e)))
 
   pub two-to-one : majorityOf (Present a ∷ (Present a ∷ (Present b ∷ []))) ≡ Present a
   unfolding majority count lowest
@@ -42,13 +30,6 @@ module _ (a b : Count) (differ : a ≡ b → ⊥) where
 pub mid-is-one : midOf sevenAndMinusThree ≡ 1
 unfolding midValue count lowest
 mid-is-one = refl
-
--- at counts, what is the same by meaning is equal
-pub same-is : (e d : Entry Count) → SameEntry (λ (c : Count). c .value) e d → e ≡ d
-same-is Missing Missing h = refl
-same-is Missing (Present y) h = absurd h
-same-is (Present x) Missing h = absurd h
-same-is (Present x) (Present y) h = ap (λ (z : ℤ). Present record { value = z }) h
 
 pub worked : (a b : Count) → Worked a b
 worked a b = record {

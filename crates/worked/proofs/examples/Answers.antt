@@ -1,13 +1,16 @@
 use mathlib.Core.Path.{_≡_, _∙_}
 use borrow.Author.Needs.{needs}
-use Rattle.worked.proofs.Computed.{two-to-one, one-to-one, mid-is-one, same-is, worked}
+use Rattle.values.proofs.Meanings.{same-equal}
+use Rattle.applications.specs.declared.wheel.Count.{Count}
+use Rattle.applications.proofs.WheelLaws.{count-equal}
+use Rattle.worked.proofs.Computed.{two-to-one, one-to-one, mid-is-one, worked}
 use Rattle.worked.proofs.examples.Needs as need
 
 pub returns : need.returns
 returns c = record {
   worked = worked (c .args .a) (c .args .b);
-  two = λ differ. same-is _ _ (c .majority .ensures .defined) ∙ two-to-one (c .args .a) (c .args .b) differ;
-  one = λ differ. same-is _ _ (c .majority-2 .ensures .defined) ∙ one-to-one (c .args .a) (c .args .b) differ;
+  two = λ differ. same-equal (λ (x : Count). x .value) count-equal _ _ (c .majority .ensures .defined) ∙ two-to-one (c .args .a) (c .args .b) differ;
+  one = λ differ. same-equal (λ (x : Count). x .value) count-equal _ _ (c .majority-2 .ensures .defined) ∙ one-to-one (c .args .a) (c .args .b) differ;
   middle = c .choose .ensures .value ∙ mid-is-one;
   lowest = search needs;
   minus-one = search needs;

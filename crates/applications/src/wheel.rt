@@ -56,7 +56,7 @@ pub impl Value for Torque as TorqueValue {
         ensures answer { λ r. ⌜ r ≡ equalℤ (now (self .entry) .value) (now (other .entry) .value) ⌝ }
         ensures equal { λ r. ⌜ (T r → now (self .entry) ≡ now (other .entry)) ⌝ }
     {
-        self.value == other.value
+        other.value == self.value
     }
 }
 

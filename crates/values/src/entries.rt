@@ -132,8 +132,9 @@ pub fn majority<E: Entries>(entries: &E) -> Entry<E::Item>
 {
     let lead = leader(entries);
     if let Entry::Present(x) = lead.holder {
+        let all = presence(entries);
         let carried = matches(entries, &x);
-        if presence(entries) - carried < carried {
+        if carried > all / 2 {
             return Entry::Present(x);
         }
     }

@@ -2,9 +2,9 @@
 ghost use mathlib.Core.Path.{_≡_};
 ghost use mathlib.Core.Bool.{Bool, true};
 ghost use lib.Dec.{T};
-ghost use lib.IntN.{ℤ, pos};
-ghost use lib.Signed.{leZ};
-ghost use Rattle.applications.specs.Wheel.{turned, torqueOf, equalℤ};
+ghost use lib.IntN.{ℤ};
+ghost use Rattle.applications.specs.Counts.{leqCount, sameCount, sameTorque};
+ghost use Rattle.applications.specs.Wheel.{turned, torqueOf};
 use values::Application;
 use values::Ordered;
 use values::Value;
@@ -21,10 +21,10 @@ pub impl Value for Count as CountValue {
 
     ghost means = { λ c. c .value };
 
-    ghost alike = { λ x y. equalℤ (x .value) (y .value) };
+    ghost alike = { sameCount };
 
     fn same(&self, other: &Count) -> bool
-        ensures answer { λ r. ⌜ r ≡ equalℤ (now (self .entry) .value) (now (other .entry) .value) ⌝ }
+        ensures answer { λ r. ⌜ r ≡ sameCount (now (self .entry)) (now (other .entry)) ⌝ }
         ensures equal { λ r. ⌜ (T r → now (self .entry) ≡ now (other .entry)) ⌝ }
     {
         self.value == other.value
@@ -32,7 +32,7 @@ pub impl Value for Count as CountValue {
 }
 
 pub impl Ordered for Count as CountOrdered {
-    ghost leq = { λ x y. leZ (x .value) (y .value) };
+    ghost leq = { leqCount };
 
     fn at_most(&self, other: &Count) -> bool {
         self.value <= other.value
@@ -50,10 +50,10 @@ pub impl Value for Torque as TorqueValue {
 
     ghost means = { λ t. t .value };
 
-    ghost alike = { λ x y. equalℤ (x .value) (y .value) };
+    ghost alike = { sameTorque };
 
     fn same(&self, other: &Torque) -> bool
-        ensures answer { λ r. ⌜ r ≡ equalℤ (now (self .entry) .value) (now (other .entry) .value) ⌝ }
+        ensures answer { λ r. ⌜ r ≡ sameTorque (now (self .entry)) (now (other .entry)) ⌝ }
         ensures equal { λ r. ⌜ (T r → now (self .entry) ≡ now (other .entry)) ⌝ }
     {
         other.value == self.value

@@ -66,11 +66,11 @@ most-taken reading ps most =
     let moved = ap (λ (k : ℕ). count k (soundAt (map (taken reading) ps))) n in
     omega (arith, n, same, moved, most)
 
-pub carried-on : (ps qs : List Processor) (readings : List (Entry Count)) (reading : Entry Count) (vote : Entry Torque)
-    → reading ≡ readingOf readings → qs ≡ map (taken reading) ps
+pub carried-on : (ps qs : List Processor) (readings : List (Entry Count)) (vote : Entry Torque)
+    → qs ≡ map (taken (readingOf readings)) ps
     → ((s : Count) → Hold qs s → MostSound qs → vote ≡ Present record { value = torqueOf (s .value) })
-    → (s : Count) → Hold ps s → MostSound ps → CarriedOn ps qs readings vote s
-carried-on ps qs readings reading vote e is votes s hold most =
+    → (s : Count) → Hold ps s → MostSound ps → CarriedOn readings qs vote s
+carried-on ps qs readings vote is votes s hold most =
     let holds : Hold qs (after s (readingOf readings)) =
-    subst (λ (x : Entry Count). Hold qs (after s x)) e (subst (λ (zs : List Processor). Hold zs (after s reading)) (sym is) (hold-taken reading ps s hold)) in
-    record { holds = holds; voted = votes (after s (readingOf readings)) holds (subst MostSound (sym is) (most-taken reading ps most)) }
+    subst (λ (zs : List Processor). Hold zs (after s (readingOf readings))) (sym is) (hold-taken (readingOf readings) ps s hold) in
+    record { holds = holds; voted = votes (after s (readingOf readings)) holds (subst MostSound (sym is) (most-taken (readingOf readings) ps most)) }

@@ -6,12 +6,13 @@ use Prim.Native.Nat.{ℕ, zero, suc, _*_, _<_}
 use lib.Dec.{T}
 use lib.IntN.{ℤ, pos}
 use lib.ListN.{length}
-use lib.Signed.{leZ}
 use Rattle.quorum.specs.Counting.{count}
 use Rattle.values.specs.Entries.{entryAt}
+use Rattle.values.specs.Majority.{Voted}
 use Rattle.values.specs.declared.Entry.{Entry}
 use Rattle.values.specs.declared.Entry.the-variants.{Present, Missing}
 use Rattle.selections.specs.Rules.{midValue}
+use Rattle.applications.specs.Counts.{leqCount, sameTorque}
 use Rattle.applications.specs.Wheel.{turned, torqueOf}
 use Rattle.applications.specs.declared.wheel.Count.{Count}
 use Rattle.applications.specs.declared.wheel.Torque.{Torque}
@@ -57,12 +58,16 @@ taken reading p = record { state = after (p .state) reading; lies = p .lies }
 
 -- the sensor that the mid-value rule chooses, and its reading
 abbrev pub chosenOf : List (Entry Count) → ℕ
-chosenOf = midValue (λ x y. leZ (x .value) (y .value))
+chosenOf = midValue leqCount
 
 abbrev pub readingOf : List (Entry Count) → Entry Count
 readingOf readings = entryAt readings (chosenOf readings)
 
+-- the majority of what the processors send
+abbrev pub VotedOn : List Processor → Entry Torque → Type 0
+VotedOn ps = Voted (λ (t : Torque). t .value) sameTorque (length ps) (sentAt ps)
+
 -- A cycle carries a common state on: the sound processors hold it stepped by the chosen reading, and its command is the vote.
-pub record CarriedOn (before after′ : List Processor) (readings : List (Entry Count)) (vote : Entry Torque) (s : Count) : Type 0 where
-  pub holds : Hold after′ (after s (readingOf readings))
+pub record CarriedOn (readings : List (Entry Count)) (ps : List Processor) (vote : Entry Torque) (s : Count) : Type 0 where
+  pub holds : Hold ps (after s (readingOf readings))
   pub voted : vote ≡ Present record { value = torqueOf (after s (readingOf readings) .value) }

@@ -9,7 +9,7 @@ ghost use Rattle.values.specs.declared.Entry.the-variants.{Present, Missing};
 ghost use Rattle.applications.specs.Wheel.{torqueOf};
 ghost use Rattle.applications.specs.declared.wheel.Count.{Count};
 ghost use Rattle.applications.specs.declared.wheel.Torque.{Torque};
-ghost use Rattle.demo.specs.Processors.{sent, sentAt, taken, chosenOf, Hold, MostSound, CarriedOn};
+ghost use Rattle.demo.specs.Processors.{sent, sentAt, taken, chosenOf, readingOf, Hold, MostSound, VotedOn, CarriedOn};
 use applications::wheel::Count;
 use applications::wheel::CountOrdered;
 use applications::wheel::CountValue;
@@ -81,7 +81,8 @@ impl<'a> Entries for Sent<'a> as SentEntries {
 
 // The majority of what the processors send: where most are sound and hold one state, its command, whatever the others send.
 pub fn vote(processors: &[Processor]) -> Entry<Torque>
-    ensures { λ r. ⌜ ((s : Count) → Hold (now (processors .entry)) s → MostSound (now (processors .entry)) → r ≡ Present record { value = torqueOf (s .value) }) ⌝ }
+    ensures voted { λ r. ⌜ VotedOn (now (processors .entry)) r ⌝ }
+    ensures sound { λ r. ⌜ ((s : Count) → Hold (now (processors .entry)) s → MostSound (now (processors .entry)) → r ≡ Present record { value = torqueOf (s .value) }) ⌝ }
 {
     majority(&Sent { processors })
 }
@@ -105,7 +106,9 @@ pub struct Outcome {
 // One cycle: chooses a sensor by the mid-value, steps every processor by its reading, and votes.
 pub fn cycle(processors: &mut [Processor], readings: &[Entry<Count>; 3]) -> Outcome
     ensures chosen { λ r. ⌜ r .chosen ≡ chosenOf (now (readings .entry)) ⌝ }
-    ensures carried { λ r. ⌜ ((s : Count) → Hold (now (processors .entry)) s → MostSound (now (processors .entry)) → CarriedOn (now (processors .entry)) (now (processors .exit)) (now (readings .entry)) (r .vote) s) ⌝ }
+    ensures moved { λ _. ⌜ now (processors .exit) ≡ map (taken (readingOf (now (readings .entry)))) (now (processors .entry)) ⌝ }
+    ensures voted { λ r. ⌜ VotedOn (now (processors .exit)) (r .vote) ⌝ }
+    ensures carried { λ r. ⌜ ((s : Count) → Hold (now (processors .entry)) s → MostSound (now (processors .entry)) → CarriedOn (now (readings .entry)) (now (processors .exit)) (r .vote) s) ⌝ }
 {
     let chosen = MidValue.choose(readings);
     take_all(processors, &reading_at(readings, chosen as usize));

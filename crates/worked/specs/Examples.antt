@@ -4,22 +4,22 @@ use mathlib.Core.List.{List, [], _∷_}
 use Prim.Native.Nat.{ℕ}
 use lib.IntN.{ℤ, pos, negsuc}
 use lib.ListN.{length}
-use lib.Signed.{leZ}
 use Rattle.values.specs.Entries.{entryAt}
 use Rattle.values.specs.Majority.{majority}
 use Rattle.values.specs.declared.Entry.{Entry}
 use Rattle.values.specs.declared.Entry.the-variants.{Present, Missing}
 use Rattle.selections.specs.Rules.{midValue}
-use Rattle.applications.specs.Wheel.{turned, torqueOf, equalℤ}
+use Rattle.applications.specs.Wheel.{turned, torqueOf}
+use Rattle.applications.specs.Counts.{leqCount, sameCount}
 use Rattle.applications.specs.declared.wheel.Count.{Count}
 
 -- the majority of a list of counts
 abbrev pub majorityOf : List (Entry Count) → Entry Count
-majorityOf entries = majority (λ x y. equalℤ (x .value) (y .value)) (length entries) (entryAt entries)
+majorityOf entries = majority sameCount (length entries) (entryAt entries)
 
 -- the sensor that the mid-value rule chooses on counts
 abbrev pub midOf : List (Entry Count) → ℕ
-midOf = midValue (λ x y. leZ (x .value) (y .value))
+midOf = midValue leqCount
 
 abbrev pub counted : ℤ → Entry Count
 counted z = Present record { value = z }

@@ -1,12 +1,21 @@
 use mathlib.Core.Path.{_≡_, ap, _∙_}
-use Prim.Native.Nat.{ℕ}
+use mathlib.Core.List.{map}
 use Rattle.values.specs.Entries.{entryAt}
+use Rattle.values.specs.declared.Entry.{Entry}
+use Rattle.applications.specs.declared.wheel.Count.{Count}
+use Rattle.demo.specs.Processors.{taken, readingOf}
 use Rattle.demo.proofs.Sending.{carried-on}
 use Rattle.demo.proofs.processors.cycle.Needs as need
 
 pub returns : need.returns
-returns c = record {
-  chosen = c .choose-chosen .ensures .value;
-  carried = carried-on (c .args .processors .now) (c .take-all .last .processors) (c .args .readings .now) (c .reading-at .result) (c .vote .result)
-      (c .reading-at .ensures ∙ ap (entryAt (c .args .readings .now)) (c .choose-chosen .ensures .value)) (c .take-all .ensures) (c .vote .ensures);
-}
+returns c =
+    let ps = c .args .processors .now in
+    let readings = c .args .readings .now in
+    let reading : c .reading-at .result ≡ readingOf readings = c .reading-at .ensures ∙ ap (entryAt readings) (c .choose-chosen .ensures .value) in
+    let moved : c .take-all .last .processors ≡ map (taken (readingOf readings)) ps = c .take-all .ensures ∙ ap (λ (e : Entry Count). map (taken e) ps) reading in
+    record {
+      chosen = c .choose-chosen .ensures .value;
+      moved = moved;
+      voted = c .vote .ensures .voted;
+      carried = carried-on ps (c .take-all .last .processors) readings (c .vote .result) moved (c .vote .ensures .sound);
+    }

@@ -4,6 +4,7 @@ use lib.Dec.{eqb}
 use lib.IntN.{pos, negsuc}
 use lib.Ieee.{Float, nan, inf, fin, binary64, add, sub, mul, le, lt, fits}
 
+-- 0
 abbrev pub zero : Float
 zero = fin false 0 (pos 0)
 
@@ -15,15 +16,19 @@ top = fin false 15625 (pos 6)
 abbrev pub bottom : Float
 bottom = fin true 15625 (pos 6)
 
+-- 0.25
 abbrev pub quarter : Float
 quarter = fin false 1 (negsuc 1)
 
+-- 0.5
 abbrev pub half : Float
 half = fin false 1 (negsuc 0)
 
+-- −0.5
 abbrev pub minusHalf : Float
 minusHalf = fin true 1 (negsuc 0)
 
+-- a zero with a minus sign
 abbrev pub minusZero : Float → Bool
 minusZero nan = false
 minusZero (inf s) = false

@@ -1,6 +1,5 @@
 // The wheel: a count of 32 bits that readings add to, and a torque against it.
 ghost use mathlib.Core.Path.{_≡_};
-ghost use mathlib.Core.Bool.{Bool, true};
 ghost use lib.Dec.{T};
 ghost use lib.IntN.{ℤ};
 ghost use Rattle.applications.specs.Counts.{leqCount, sameCount, sameTorque};

@@ -2,18 +2,17 @@
 use mathlib.Core.Path.{_≡_, refl, sym, ap, subst, _∙_}
 use mathlib.Core.Bool.{Bool, true, false, cond, not}
 use mathlib.Core.List.{List, [], _∷_, map}
-use Prim.Native.Nat.{ℕ, zero, suc, _+_, _*_, _<_, _≤_}
+use Prim.Native.Nat.{ℕ, zero, suc, _<_}
 use native.Mathlib.Omega.{arith}
 use lib.Dec.{T}
-use lib.IntN.{ℤ}
 use lib.ListN.{length, getD}
 use Rattle.std.proofs.shelf.Lists.{length-map}
 use Rattle.quorum.specs.Counting.{count}
 use Rattle.quorum.proofs.Counts.{yes, count-le, count-mono, count-same}
-use Rattle.values.specs.Entries.{present, carries, SameEntry, matches, presence}
+use Rattle.values.specs.Entries.{present, carries}
 use Rattle.values.specs.Majority.{Most}
 use Rattle.values.specs.declared.Entry.{Entry}
-use Rattle.values.specs.declared.Entry.the-variants.{Present, Missing}
+use Rattle.values.specs.declared.Entry.the-variants.{Present}
 use Rattle.applications.specs.Wheel.{torqueOf}
 use Rattle.applications.specs.declared.wheel.Count.{Count}
 use Rattle.applications.specs.declared.wheel.Torque.{Torque}

@@ -1,10 +1,10 @@
 // Processors that each run the wheel, and the vote on what they send.
 ghost use mathlib.Core.Path.{_≡_};
 ghost use mathlib.Core.List.{map};
-ghost use Prim.Native.Nat.{ℕ, _<_};
-ghost use lib.ListN.{length, getD};
+ghost use Prim.Native.Nat.{_<_};
+ghost use lib.ListN.{length};
 ghost use denote.Ref.{now as seen};
-ghost use Rattle.values.specs.Entries.{SameEntry, entryAt};
+ghost use Rattle.values.specs.Entries.{entryAt};
 ghost use Rattle.values.specs.declared.Entry.the-variants.{Present, Missing};
 ghost use Rattle.applications.specs.Wheel.{torqueOf};
 ghost use Rattle.applications.specs.declared.wheel.Count.{Count};

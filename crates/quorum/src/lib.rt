@@ -1,8 +1,7 @@
 // Counting, the arithmetic on which every quorum stands.
 ghost use mathlib.Core.Path.{_≡_};
 ghost use mathlib.Core.Bool.{Bool, _&&_};
-ghost use Prim.Native.Nat.{ℕ, _+_, _-_, _^_, _<_, _≤_};
-ghost use lib.Dec.{T};
+ghost use Prim.Native.Nat.{ℕ, _-_, _^_, _<_, _≤_};
 ghost use Rattle.quorum.specs.Counting.{bit, count, lowest};
 ghost use Rattle.quorum.specs.Laws.{CountingLaws, Lowest};
 

@@ -1,21 +1,21 @@
 -- The mid-value: it exists where there is a candidate, and lies within any set of candidates that is more than half of all sensors.
 use mathlib.Core.Path.{_≡_, refl, sym, ap, subst, _∙_}
-use mathlib.Core.Bool.{Bool, true, false, cond, not, _&&_, _||_}
+use mathlib.Core.Bool.{Bool, true, false, not, _&&_, _||_}
 use mathlib.Core.Logic.{_⊎_, inl, inr}
 use mathlib.Core.List.{List}
 use Prim.Native.Nat.{ℕ, zero, suc, _+_, _*_, _/_, _<_, _≤_}
 use native.Mathlib.Omega.{arith}
-use lib.Dec.{T, eqb, leb, leb→le, le→leb, eqb→eq, T-not, not-T}
+use lib.Dec.{T, eqb, leb, leb→le, le→leb, eqb→eq, T-not}
 use lib.ListN.{length, getD}
 use Rattle.std.proofs.shelf.Lists.{getD-read}
 use Rattle.std.proofs.shelf.Tests.{cases-lt, cases-eq}
 use Rattle.quorum.specs.Counting.{count}
-use Rattle.quorum.proofs.Counts.{both, join, yes, is-yes, bool-same, count-mono, count-same, count-le, count-within, count-split, count-some, count-pos, count-none}
+use Rattle.quorum.proofs.Counts.{both, join, bool-same, count-mono, count-same, count-le, count-within, count-split, count-some, count-pos, count-none}
 use Rattle.values.specs.Entries.{present, entryAt, SameEntry}
 use Rattle.values.specs.declared.Entry.{Entry}
 use Rattle.values.specs.declared.Entry.the-variants.{Present, Missing}
-use Rattle.values.proofs.Meanings.{same-sym, same-present}
-use Rattle.selections.specs.Choices.{noSensor, candidate, lowestSensor, Chooses}
+use Rattle.values.proofs.Meanings.{same-present}
+use Rattle.selections.specs.Choices.{noSensor, candidate, Chooses}
 use Rattle.selections.specs.Rules.{atMost, below, half, rank, reached, middle, midValue, MidValued, Between, Bracketed}
 use Rattle.selections.proofs.Sensors.{candidate-below, sensor-some, sensor-none, sensor-same}
 

@@ -1,22 +1,20 @@
 -- One turn of the scan for the mid-value, and what it ends with.
-use mathlib.Core.Path.{_≡_, refl, sym, subst, _∙_}
-use mathlib.Core.Bool.{Bool, true, false, _||_}
-use mathlib.Core.Logic.{_⊎_, inl, inr}
+use mathlib.Core.Path.{_≡_, refl, sym, subst}
+use mathlib.Core.Bool.{Bool, false, _||_}
+use mathlib.Core.Logic.{inl, inr}
 use mathlib.Core.List.{List}
-use Prim.Native.Nat.{ℕ, _+_, _<_, _≤_}
+use Prim.Native.Nat.{ℕ, _+_, _<_}
 use native.Mathlib.Omega.{arith}
 use lib.Dec.{T}
 use lib.ListN.{length}
-use Rattle.std.specs.Orderings.{Decides}
 use Rattle.std.specs.declared.option.Option.{Option}
 use Rattle.std.specs.declared.option.Option.the-variants.{Some, None}
 use Rattle.std.proofs.shelf.Tests.{cases-bool, cases-eq}
-use Rattle.std.proofs.shelf.Ways.{not-from-decides}
 use Rattle.quorum.proofs.Counts.{yes}
 use Rattle.values.specs.declared.Entry.{Entry}
 use Rattle.selections.specs.Choices.{noSensor, candidate}
 use Rattle.selections.specs.Rules.{below, reached, middle, midValue}
-use Rattle.selections.specs.Picks.{PickedSome, Picked}
+use Rattle.selections.specs.Picks.{Picked}
 use Rattle.selections.proofs.Sensors.{sensor-found, sensor-none}
 use Rattle.selections.proofs.Middle.{tot, tr, reach-back, middle-of, middle-back}
 

@@ -1,20 +1,19 @@
 -- The lowest sensor that passes a test, and the first candidate.
-use mathlib.Core.Path.{_≡_, refl, sym, ap, subst, _∙_}
-use mathlib.Core.Bool.{Bool, true, false, cond}
-use mathlib.Core.Logic.{_⊎_, inl, inr}
+use mathlib.Core.Path.{_≡_, sym, ap, subst, _∙_}
+use mathlib.Core.Bool.{Bool, cond}
+use mathlib.Core.Logic.{inl, inr}
 use mathlib.Core.List.{List}
-use Prim.Native.Nat.{ℕ, _<_, _≤_}
+use Prim.Native.Nat.{ℕ, _<_}
 use native.Mathlib.Omega.{arith}
 use lib.Dec.{T, ltb}
 use lib.ListN.{length, getD}
 use Rattle.std.proofs.shelf.Lists.{getD-past, getD-read}
 use Rattle.std.proofs.shelf.Tests.{cases-lt, cond-true, cond-false, lt-ltb, le-ltb}
 use Rattle.quorum.specs.Counting.{lowest}
-use Rattle.quorum.specs.Laws.{Lowest}
 use Rattle.quorum.proofs.Counts.{lowest-is, lowest-unique, lowest-same, lowest-some, lowest-none}
-use Rattle.values.specs.Entries.{present, entryAt, SameEntry}
+use Rattle.values.specs.Entries.{present, entryAt}
 use Rattle.values.specs.declared.Entry.{Entry}
-use Rattle.values.specs.declared.Entry.the-variants.{Present, Missing}
+use Rattle.values.specs.declared.Entry.the-variants.{Missing}
 use Rattle.values.proofs.Meanings.{same-present}
 use Rattle.selections.specs.Choices.{noSensor, candidate, lowestSensor, Chooses}
 use Rattle.selections.specs.Rules.{first}

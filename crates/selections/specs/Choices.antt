@@ -24,9 +24,9 @@ lowestSensor n test = cond (ltb (lowest n test) n) (lowest n test) noSensor
 -- What a selection owes. An answer is one byte and 255 stands for none, so it is asked of fewer than 255 sensors.
 pub record Chooses {R M : Type 0} (means : R → M) (choice : List (Entry R) → ℕ) : Type 0 where
   -- with a candidate, the answer is one
-  pub some : (readings : List (Entry R)) → length readings < 255 → (k : ℕ) → T (candidate readings k) → T (candidate readings (choice readings))
+  pub some : (readings : List (Entry R)) → length readings < noSensor → (k : ℕ) → T (candidate readings k) → T (candidate readings (choice readings))
   -- without one, it is none
-  pub none : (readings : List (Entry R)) → length readings < 255 → ((k : ℕ) → T (candidate readings k) → ⊥) → choice readings ≡ noSensor
+  pub none : (readings : List (Entry R)) → length readings < noSensor → ((k : ℕ) → T (candidate readings k) → ⊥) → choice readings ≡ noSensor
   -- only the candidates and what their readings mean matter
-  pub congruent : (readings others : List (Entry R)) → length readings < 255 → length readings ≡ length others
+  pub congruent : (readings others : List (Entry R)) → length readings < noSensor → length readings ≡ length others
       → ((k : ℕ) → SameEntry means (entryAt readings k) (entryAt others k)) → choice readings ≡ choice others

@@ -1,7 +1,4 @@
 // The lowest candidate.
-ghost use mathlib.Core.Path.{_≡_};
-ghost use Prim.Native.Nat.{ℕ, _<_};
-ghost use lib.ListN.{length};
 ghost use Rattle.selections.specs.Rules.{first};
 use crate::NO_SENSOR;
 use crate::Selection;

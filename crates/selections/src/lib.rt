@@ -1,6 +1,5 @@
 // Selections: which candidate's reading a cycle goes on with.
 ghost use mathlib.Core.Path.{_≡_};
-ghost use mathlib.Core.Bool.{Bool};
 ghost use mathlib.Core.List.{List};
 ghost use Prim.Native.Nat.{ℕ, _<_};
 ghost use lib.ListN.{length};
@@ -23,6 +22,6 @@ pub trait Selection<R: Value> {
     law chooses: { (s : Self) → Chooses (R·Value .means) (choice s) };
 
     fn choose(&self, readings: &[Entry<R>]) -> u8
-        requires { ⌜ length (now readings) < 255 ⌝ }
+        requires { ⌜ length (now readings) < noSensor ⌝ }
         ensures { λ r. ⌜ r ≡ choice (now (self .entry)) (now (readings .entry)) ⌝ };
 }

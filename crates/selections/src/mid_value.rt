@@ -1,13 +1,11 @@
 // The mid-value rule, for every kind of reading that has a total order.
 ghost use mathlib.Core.Path.{_≡_};
-ghost use mathlib.Core.Bool.{Bool};
-ghost use Prim.Native.Nat.{ℕ, _+_, _<_, _≤_};
+ghost use Prim.Native.Nat.{ℕ, _+_, _<_};
 ghost use lib.Dec.{T};
 ghost use lib.ListN.{length};
 ghost use Rattle.std.specs.Orderings.{Decides};
 ghost use Rattle.std.specs.declared.option.Option.the-variants.{Some, None};
-ghost use Rattle.values.specs.Entries.{entryAt};
-ghost use Rattle.selections.specs.Choices.{candidate};
+ghost use Rattle.selections.specs.Choices.{candidate, noSensor};
 ghost use Rattle.selections.specs.Rules.{atMost, below, half as halfOf, rank as rankOf, reached, midValue, MidValued, Bracketed};
 ghost use Rattle.selections.specs.Picks.{Picked};
 use crate::NO_SENSOR;
@@ -91,7 +89,7 @@ pub impl<R: Ordered> Selection<R> for MidValue as MidValueSelection {
     ghost choice = { λ _. midValue (R·Ordered .leq) };
 
     fn choose(&self, readings: &[Entry<R>]) -> u8
-        requires { ⌜ length (now readings) < 255 ⌝ }
+        requires { ⌜ length (now readings) < noSensor ⌝ }
         ensures value { λ r. ⌜ r ≡ midValue (R·Ordered .leq) (now (readings .entry)) ⌝ }
         ensures rule { λ r. ⌜ ((k : ℕ) → T (candidate (now (readings .entry)) k) → MidValued (R·Ordered .leq) (now (readings .entry)) r) ⌝ }
         ensures bracketed { λ r. ⌜ ((k : ℕ) → T (candidate (now (readings .entry)) k) → Bracketed (R·Ordered .leq) (now (readings .entry)) r) ⌝ }

@@ -1,8 +1,8 @@
 -- What more than half of the present entries carry: there is one at most, and a linear vote finds it.
 use mathlib.Core.Path.{_≡_, refl, sym, ap, subst, _∙_}
-use mathlib.Core.Bool.{Bool, true, false, cond, _&&_}
-use mathlib.Core.Logic.{_⊎_, inl, inr}
-use Prim.Native.Nat.{ℕ, _+_, _*_, _<_, _≤_}
+use mathlib.Core.Bool.{Bool, _&&_}
+use mathlib.Core.Logic.{inl, inr}
+use Prim.Native.Nat.{ℕ, _+_, _≤_}
 use native.Mathlib.Omega.{arith}
 use lib.Dec.{T, ltb}
 use Rattle.std.specs.Orderings.{Decides}
@@ -10,7 +10,7 @@ use Rattle.std.proofs.shelf.Tests.{cases-bool, cases-lt, cond-true, cond-false,
 use Rattle.quorum.proofs.Counts.{both, yes, is-yes, one, count-mono, count-same, count-within, count-some, count-zero, count-more, lowest-is, lowest-some}
 use Rattle.values.specs.Entries.{present, carries, SameEntry, presence, matches}
 use Rattle.values.specs.Majority.{Most, IsMajority, wins, winner, majority, Voted}
-use Rattle.values.specs.Lead.{Bounds, Weighed, Leads}
+use Rattle.values.specs.Lead.{Weighed, Leads}
 use Rattle.values.specs.declared.Entry.{Entry}
 use Rattle.values.specs.declared.Entry.the-variants.{Present, Missing}
 use Rattle.values.proofs.Meanings.{same-refl, same-sym, same-trans, same-present, carries-same, carries-present, carries-by}
@@ -32,9 +32,6 @@ module _ {V M : Type 0} (means : V → M) (alike : V → V → Bool) (law : (x y
       record { leading = λ t. omega (arith, p, m, next .leading t); trailing = λ f. omega (arith, p, m, next .trailing f) }
 
   module _ (n : ℕ) (entry : ℕ → Entry V) where
-    pub matches-le : (x : V) → matches alike x n entry ≤ presence n entry
-    matches-le x = count-mono n (λ i. carries alike x (entry i)) (λ i. present (entry i)) (λ i l t. carries-present means alike law x (entry i) t)
-
     -- only the leading value can have more than half
     pub most-leads : (holder : Entry V) (margin : ℕ) → Leads alike n entry holder margin → (x : V) → Most alike n entry x → T (carries alike x holder)
     most-leads holder margin led x most =

@@ -1,9 +1,9 @@
 -- Entries by meaning.
-use mathlib.Core.Path.{_≡_, refl, sym, ap, subst, _∙_}
-use mathlib.Core.Bool.{Bool, true, false}
+use mathlib.Core.Path.{_≡_, refl, sym, ap, _∙_}
+use mathlib.Core.Bool.{Bool}
 use lib.Dec.{T}
 use Rattle.std.specs.Orderings.{Decides}
-use Rattle.quorum.proofs.Counts.{yes, is-yes, is-no, bool-same}
+use Rattle.quorum.proofs.Counts.{yes, is-yes, bool-same}
 use Rattle.values.specs.Entries.{present, carries, SameEntry}
 use Rattle.values.specs.declared.Entry.{Entry}
 use Rattle.values.specs.declared.Entry.the-variants.{Present, Missing}

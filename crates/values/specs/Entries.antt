@@ -8,11 +8,12 @@ use Rattle.quorum.specs.Counting.{count}
 use Rattle.values.specs.declared.Entry.{Entry}
 use Rattle.values.specs.declared.Entry.the-variants.{Present, Missing}
 
+-- the entry carries a value
 abbrev pub present : {V : Type 0} → Entry V → Bool
 present Missing = false
 present (Present x) = true
 
--- the entry carries the value x
+-- the value it carries is x
 abbrev pub carries : {V : Type 0} → (V → V → Bool) → V → Entry V → Bool
 carries alike x Missing = false
 carries alike x (Present y) = alike x y

@@ -1,5 +1,5 @@
 -- The majority of entries.
-use mathlib.Core.Bool.{Bool, true, false, cond}
+use mathlib.Core.Bool.{Bool, false, cond}
 use Prim.Native.Nat.{ℕ, _*_, _<_}
 use lib.Dec.{ltb}
 use Rattle.quorum.specs.Counting.{lowest}

@@ -1,6 +1,6 @@
 // Entries read by position, wherever they lie, and their majority: written once, for readings, states and commands alike.
 ghost use mathlib.Core.Path.{_≡_};
-ghost use mathlib.Core.Bool.{Bool, true, false};
+ghost use mathlib.Core.Bool.{false};
 ghost use Prim.Native.Nat.{ℕ, _+_, _^_, _<_};
 ghost use lib.ListN.{length};
 ghost use denote.Ref.{now as seen};
@@ -112,7 +112,7 @@ fn weigh<V: Value>(lead: Lead<V>, e: Entry<V>) -> Lead<V>
     }
 }
 
-// The lead once all entries are weighed; the length of a table is far below 2 ^ 63.
+// The lead once all entries are weighed; its margin never passes the number of entries.
 fn leader<E: Entries>(entries: &E) -> Lead<E::Item>
     ensures { λ r. ⌜ Leads (Item·Value .alike) (E·Entries .size (now (entries .entry))) (E·Entries .entry (now (entries .entry))) (r .holder) (r .margin) ⌝ }
 {

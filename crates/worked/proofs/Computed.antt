@@ -1,6 +1,6 @@
 -- The examples, computed.
 use mathlib.Core.Path.{_≡_, refl, sym}
-use mathlib.Core.Bool.{true, false}
+use mathlib.Core.Bool.{false}
 use mathlib.Core.List.{[], _∷_}
 use Rattle.quorum.specs.Counting.{count, lowest}
 use Rattle.values.specs.Majority.{majority}

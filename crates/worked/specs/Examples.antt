@@ -21,6 +21,7 @@ majorityOf entries = majority sameCount (length entries) (entryAt entries)
 abbrev pub midOf : List (Entry Count) → ℕ
 midOf = midValue leqCount
 
+-- an entry that carries the count z
 abbrev pub counted : ℤ → Entry Count
 counted z = Present record { value = z }
 

@@ -1,4 +1,4 @@
-use mathlib.Core.Path.{_≡_, _∙_}
+use mathlib.Core.Path.{_∙_}
 use borrow.Author.Needs.{needs}
 use Rattle.values.proofs.Meanings.{same-equal}
 use Rattle.applications.specs.declared.wheel.Count.{Count}

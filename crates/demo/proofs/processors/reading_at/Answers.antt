@@ -1,6 +1,4 @@
 use mathlib.Core.Path.{sym}
-use Prim.Native.Nat.{_≤_}
-use native.Mathlib.Omega.{arith}
 use Rattle.std.proofs.shelf.Lists.{getD-past}
 use Rattle.values.specs.declared.Entry.the-variants.{Missing}
 use Rattle.demo.proofs.processors.reading_at.Needs as need

@@ -1,10 +1,9 @@
 use mathlib.Core.Path.{_≡_, sym, subst}
-use Prim.Native.Nat.{ℕ, _+_, _<_}
+use Prim.Native.Nat.{ℕ, _+_}
 use native.Mathlib.Omega.{arith}
 use lib.ListN.{length}
 use Rattle.std.proofs.shelf.Ways.{not-from-decides}
 use Rattle.std.specs.declared.option.Option.{Option}
-use Rattle.std.specs.declared.option.Option.the-variants.{Some}
 use Rattle.selections.specs.Picks.{Picked}
 use Rattle.selections.proofs.Picking.{pick-takes, pick-stays, picked-within}
 use Rattle.selections.proofs.mid_value.pick.Needs as need

@@ -1,10 +1,9 @@
-use mathlib.Core.Path.{_≡_, sym, ap, _∙_}
-use mathlib.Core.Bool.{Bool, true, false}
-use Prim.Native.Nat.{ℕ, _<_}
+use mathlib.Core.Path.{_≡_, sym, _∙_}
+use mathlib.Core.Bool.{Bool}
+use Prim.Native.Nat.{ℕ}
 use native.Mathlib.Omega.{arith}
-use lib.ListN.{length, getD}
 use Rattle.quorum.proofs.Counts.{count-zero, count-yes, count-no}
-use Rattle.selections.specs.Rules.{atMost, below}
+use Rattle.selections.specs.Rules.{below}
 use Rattle.selections.proofs.Middle.{below-read}
 use Rattle.selections.proofs.mid_value.rank.Needs as need
 use Rattle.selections.proofs.mid_value.rank.Needs.{then-at-most, else-at-most}

@@ -1,5 +1,4 @@
 use mathlib.Core.Path.{_≡_, sym, _∙_}
-use mathlib.Core.Bool.{true, false}
 use native.Mathlib.Omega.{arith}
 use Rattle.quorum.proofs.Counts.{count-zero, count-yes, count-no}
 use Rattle.values.specs.Entries.{present}

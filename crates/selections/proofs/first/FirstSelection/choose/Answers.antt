@@ -1,15 +1,8 @@
-use mathlib.Core.Path.{_≡_, sym, ap, subst, _∙_}
-use mathlib.Core.Bool.{Bool, true, false}
-use mathlib.Core.List.{List}
-use Prim.Native.Nat.{ℕ, _<_}
+use mathlib.Core.Path.{sym, subst, _∙_}
 use native.Mathlib.Omega.{arith}
 use lib.Dec.{T}
-use lib.ListN.{length, getD}
+use lib.ListN.{length}
 use borrow.Author.Count.{below-more}
-use Rattle.std.proofs.shelf.Lists.{getD-read}
-use Rattle.values.specs.Entries.{present}
-use Rattle.values.specs.declared.Entry.{Entry}
-use Rattle.values.specs.declared.Entry.the-variants.{Missing}
 use Rattle.selections.specs.Choices.{candidate}
 use Rattle.selections.specs.Rules.{first}
 use Rattle.selections.proofs.Sensors.{sensor-found, sensor-none, candidate-read}

@@ -1,15 +1,41 @@
 // Four processors and three redundant sensors: one sensor is wrong, one processor lies, and the vote still stands.
 // Each line of the input is a cycle: the sensors' readings, or `-` for one that gives none.
+use agreement::deliver;
 use applications::wheel::Count;
 use applications::wheel::Torque;
+use layers::king::PhaseKing;
+use layers::king::PhaseKingLayer;
 use processors::Processor;
 use processors::cycle;
+use quorum::is_set;
 use selections::NO_SENSOR;
 use std::error::AnyError;
 use values::Entry;
 use values::EntryClone;
 
+mod agreement;
 mod processors;
+
+// A row of answers, one for each sound replica.
+fn show_bits(rt: &LibcRuntime, title: &str, bits: u16) -> Result<(), AnyError> {
+    print!(rt, "  {title}")?;
+    for i in 0..3 {
+        if is_set(bits, i) {
+            print!(rt, " yes")?;
+        } else {
+            print!(rt, " no")?;
+        }
+    }
+    println!(rt, "")?;
+    Ok(())
+}
+
+// The sender tells replicas 0 and 2 yes and replica 1 no, and then says nothing more.
+fn show_agreement(rt: &LibcRuntime) -> Result<(), AnyError> {
+    println!(rt, "phase king, with a two-faced sender")?;
+    show_bits(rt, "told", 5)?;
+    show_bits(rt, "got", deliver(&PhaseKing, &[1, 0, 1]))
+}
 
 // One word of a line.
 fn entry_of(word: &str) -> Result<Entry<Count>, AnyError> {
@@ -113,5 +139,6 @@ fn main(rt: LibcRuntime) -> Result<(), AnyError> {
         lies: true,
     };
     let mut processors = [sound, sound, sound, liar];
+    rt.report(show_agreement(&rt))?;
     rt.report(run_cycles(&rt, &mut processors))
 }

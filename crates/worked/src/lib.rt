@@ -1,6 +1,9 @@
 // The examples worked out by hand: theorems about the definitions, and the code's own answers.
 ghost use mathlib.Core.Path.{_≡_};
+ghost use mathlib.Core.Bool.{true, false};
+ghost use Prim.Native.Nat.{ℕ, _<_};
 ghost use lib.IntN.{pos};
+ghost use Rattle.quorum.specs.Counting.{bit};
 ghost use Rattle.values.specs.declared.Entry.the-variants.{Present, Missing};
 ghost use Rattle.applications.specs.Wheel.{torqueOf};
 ghost use Rattle.worked.specs.Examples.{Worked};
@@ -9,6 +12,9 @@ use applications::wheel::CountOrdered;
 use applications::wheel::CountValue;
 use applications::wheel::Wheel;
 use applications::wheel::WheelApplication;
+use layers::king::PhaseKing;
+use layers::king::PhaseKingLayer;
+use layers::layer::Layer;
 use selections::Selection;
 use selections::mid_value::MidValue;
 use selections::mid_value::MidValueSelection;
@@ -28,6 +34,8 @@ pub struct Answers {
     pub torque_minus_one: i16,
     pub torque_short: i16,
     pub step_held: i32,
+    pub king_two_faced: u16,
+    pub king_contradicted: u16,
 }
 
 // Runs the examples, with a and b any two counts.
@@ -40,6 +48,8 @@ pub fn examples(a: Count, b: Count) -> Answers
     ensures minus_one { λ r. ⌜ r .«torque_minus_one» ≡ pos 0 ⌝ }
     ensures short { λ r. ⌜ r .«torque_short» ≡ pos 0 ⌝ }
     ensures held { λ r. ⌜ r .«step_held» ≡ pos 2147483647 ⌝ }
+    ensures two_faced { λ r. ⌜ ((i : ℕ) → i < 3 → bit (r .«king_two_faced») i ≡ true) ⌝ }
+    ensures contradicted { λ r. ⌜ ((i : ℕ) → i < 3 → bit (r .«king_contradicted») i ≡ false) ⌝ }
 {
     let three = [Entry::Present(a), Entry::Present(a), Entry::Present(b)];
     let two = [Entry::Present(a), Entry::Present(b)];
@@ -57,6 +67,8 @@ pub fn examples(a: Count, b: Count) -> Answers
         step_held: Wheel
             .step(&Count { value: 2147483647 }, &Count { value: 1 })
             .value,
+        king_two_faced: PhaseKing.deliver(4, 1, 8, 3, false, &[1, 0, 1]),
+        king_contradicted: PhaseKing.deliver(4, 1, 8, 0, false, &[1; 76]),
     }
 }
 

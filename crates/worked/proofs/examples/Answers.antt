@@ -1,9 +1,10 @@
 use mathlib.Core.Path.{_∙_}
+use native.Mathlib.Omega.{arith}
 use borrow.Author.Needs.{needs}
 use Rattle.values.proofs.Meanings.{same-equal}
 use Rattle.applications.specs.declared.wheel.Count.{Count}
 use Rattle.applications.proofs.WheelLaws.{count-equal}
-use Rattle.worked.proofs.Computed.{two-to-one, one-to-one, mid-is-one, worked}
+use Rattle.worked.proofs.Computed.{two-to-one, one-to-one, mid-is-one, unmarked, king-two-faced, king-contradicted, worked}
 use Rattle.worked.proofs.examples.Needs as need
 
 pub returns : need.returns
@@ -16,4 +17,6 @@ returns c = record {
   minus-one = search needs;
   short = search needs;
   held = search needs;
+  two-faced = λ i l. c .deliver .ensures i (omega arith) (unmarked i l) ∙ king-two-faced i l;
+  contradicted = λ i l. c .deliver-2 .ensures i (omega arith) (unmarked i l) ∙ king-contradicted i l;
 }

@@ -1,0 +1,3 @@
+pub mod King
+pub mod Layers
+pub mod Views

@@ -5,14 +5,12 @@ use mathlib.Core.List.{List}
 use mathlib.Core.Logic.{inl, inr}
 use Prim.Native.Nat.{ℕ, suc, _+_, _-_, _*_, _≤_, _<_}
 use native.Mathlib.Decide.{le-ind}
-use native.Mathlib.Nat.{le-refl}
-use native.Mathlib.Numerals.{add-one}
 use native.Mathlib.Omega.{arith}
 use lib.Dec.{T, leb}
 use Rattle.std.proofs.shelf.Bits.{mul-le}
 use Rattle.std.proofs.shelf.Tests.{cases-lt, cond-true, cond-false, le-leb, lt-leb, leb-true}
-use Rattle.quorum.specs.Counting.{bit, count}
-use Rattle.quorum.proofs.Counts.{count-more, count-not, count-some, is-yes}
+use Rattle.quorum.specs.Counting.{bit}
+use Rattle.quorum.proofs.Counts.{count-not, count-reach, count-some, is-yes}
 use Rattle.layers.specs.declared.said.Said.{Said}
 use Rattle.layers.specs.Layers.{Sized, Sound, FewFaulty, Agreed, AllGet}
 use Rattle.layers.specs.King.{Given, says, aloud, enough, takes, votesAt, proposalsAt, votes, proposal, proposals, taken, firm, kingsBit, phase, phaseSize, kingSize, bitsAfter, instance, king}
@@ -38,10 +36,6 @@ takes-aloud false own s e = ap (λ (s : Said). takes s own) e
 either-way : (t a b c : Bool) → (t ≡ true → a ≡ c) → b ≡ c → cond t a b ≡ c
 either-way true a b c h k = h refl
 either-way false a b c h k = k
-
--- fewer indices, no larger count
-count-reach : (p : ℕ → Bool) (m n : ℕ) → m ≤ n → count m p ≤ count n p
-count-reach p m n h = le-ind (λ (k : ℕ). count m p ≤ count k p) (le-refl (count m p)) (λ k _ ih. rw (← add-one k) (omega (arith, count-more k p))) n h
 
 module _ (g : Given) (few : FewFaulty (g .n) (g .f) (g .marks)) (most : 3 * g .f < g .n) where
   -- ---- one phase

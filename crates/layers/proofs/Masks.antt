@@ -1,6 +1,6 @@
 -- Words of 16 bits as sets of replicas.
 use mathlib.Core.Path.{_≡_, refl, sym, ap, _∙_}
-use mathlib.Core.Bool.{Bool, true, false, not}
+use mathlib.Core.Bool.{Bool, true, false}
 use Prim.Native.Nat.{ℕ, suc, _+_, _-_, _*_, _/_, _%_, _^_, _<_}
 use native.Mathlib.Nat.{one-mul, pow-suc, mul-add-div-right}
 use native.Mathlib.Numerals.{add-one}
@@ -10,19 +10,9 @@ use lib.Bits.{bitOr, or-shifted-r}
 use lib.Dec.{eqb}
 use lib.Pow.{high, pow-add, pow-pos}
 use Rattle.std.proofs.shelf.Bits.{one-shl}
-use Rattle.std.proofs.shelf.Tests.{not-from-false}
 use Rattle.quorum.specs.Counting.{bit, count}
 use Rattle.quorum.proofs.Bits.{bit-above}
-use Rattle.quorum.proofs.Counts.{count-not, count-pos, yes}
-
--- where all are counted, each passes
-pub count-each : (n : ℕ) (p : ℕ → Bool) → count n p ≡ n → (i : ℕ) → i < n → p i ≡ true
-count-each n p all i h = at (p i) refl
-  where
-    at : (b : Bool) → p i ≡ b → p i ≡ true
-    at true e = e
-    at false e =
-        absurd (omega (arith, count-not n p, count-pos n (λ j. not (p j)) i h (yes _ (not-from-false (p i) e))))
+use Rattle.quorum.proofs.Counts.{count-each}
 
 pub all-set : (i : ℕ) → i < 16 → bit 65535 i ≡ true
 unfolding count

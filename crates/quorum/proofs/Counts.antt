@@ -3,11 +3,12 @@ use mathlib.Core.Path.{_≡_, refl, sym, ap, subst}
 use mathlib.Core.Bool.{Bool, true, false, cond, not, _&&_}
 use mathlib.Core.Logic.{inl, inr}
 use Prim.Native.Nat.{ℕ, zero, suc, _+_, _-_, _<_, _≤_}
-use native.Mathlib.Nat.{eq-zero-or-pos}
+use native.Mathlib.Decide.{le-ind}
+use native.Mathlib.Nat.{eq-zero-or-pos, le-refl}
 use native.Mathlib.Numerals.{add-one}
 use native.Mathlib.Omega.{arith}
 use lib.Dec.{T}
-use Rattle.std.proofs.shelf.Tests.{cases-eq, cases-lt}
+use Rattle.std.proofs.shelf.Tests.{cases-eq, cases-lt, not-from-false}
 use Rattle.quorum.specs.Counting.{count, lowest}
 use Rattle.quorum.specs.Laws.{CountingLaws, Lowest}
 
@@ -131,6 +132,15 @@ pub count-none : (n : ℕ) (p : ℕ → Bool) → ((i : ℕ) → i < n → T (p 
 count-none n p h =
     elim (eq-zero-or-pos (count n p)) [ inl e ↦ e | inr q ↦ absurd (let w = count-some n p q in h (w .0) (w .1) (w .2)) ]
 
+-- where all are counted, each passes
+pub count-each : (n : ℕ) (p : ℕ → Bool) → count n p ≡ n → (i : ℕ) → i < n → p i ≡ true
+count-each n p all i h = at (p i) refl
+  where
+    at : (b : Bool) → p i ≡ b → p i ≡ true
+    at true e = e
+    at false e =
+        absurd (omega (arith, count-not n p, count-pos n (λ j. not (p j)) i h (yes _ (not-from-false (p i) e))))
+
 -- ---- a loop that counts
 
 pub count-zero : (p : ℕ → Bool) → count 0 p ≡ 0
@@ -146,6 +156,10 @@ count-yes n p h = let e : one (p n) ≡ 1 = ap one h in omega (arith, count-more
 
 pub count-no : (n : ℕ) (p : ℕ → Bool) → p n ≡ false → count (n + 1) p ≡ count n p
 count-no n p h = let e : one (p n) ≡ 0 = ap one h in omega (arith, count-more n p)
+
+-- fewer indices, no larger count
+pub count-reach : (p : ℕ → Bool) (m n : ℕ) → m ≤ n → count m p ≤ count n p
+count-reach p m n h = le-ind (λ (k : ℕ). count m p ≤ count k p) (le-refl (count m p)) (λ k _ ih. rw (← add-one k) (omega (arith, count-more k p))) n h
 
 pub counting-laws : CountingLaws
 counting-laws = record { monotone = count-mono; complement = count-not; overlap = count-overlap; witness = count-some }

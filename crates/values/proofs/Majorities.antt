@@ -7,7 +7,7 @@ use native.Mathlib.Omega.{arith}
 use lib.Dec.{T, ltb}
 use Rattle.std.specs.Orderings.{Decides}
 use Rattle.std.proofs.shelf.Tests.{cases-bool, cases-lt, cond-true, cond-false, lt-ltb, le-ltb, ltb-true}
-use Rattle.quorum.proofs.Counts.{both, yes, is-yes, one, count-mono, count-same, count-within, count-some, count-zero, count-more, lowest-is, lowest-some}
+use Rattle.quorum.proofs.Counts.{both, yes, is-yes, one, count-same, count-within, count-some, count-zero, count-more, lowest-is, lowest-some}
 use Rattle.values.specs.Entries.{present, carries, SameEntry, presence, matches}
 use Rattle.values.specs.Majority.{Most, IsMajority, wins, winner, majority, Voted}
 use Rattle.values.specs.Lead.{Weighed, Leads}

@@ -1,4 +1,8 @@
-ghost use Rattle.layers.specs.Layers.{bitFrom};
+ghost use mathlib.Core.Path.{_≡_};
+ghost use mathlib.Core.Bool.{true, false};
+ghost use Prim.Native.Nat.{ℕ, _<_};
+ghost use Rattle.quorum.specs.Counting.{bit as isSet};
+ghost use Rattle.layers.specs.Layers.{Sized, Sound, bitFrom};
 use crate::layer::Layer;
 use crate::words::bit_from;
 
@@ -15,15 +19,14 @@ pub impl Layer for Bus as BusLayer {
         1
     }
 
-    fn deliver(
-        &self,
-        n: usize,
-        f: usize,
-        marks: u16,
-        sender: usize,
-        bit: bool,
-        words: &[u8],
-    ) -> u16 {
+    // All receivers read one bit, so all sixteen bits of the answer are alike.
+    fn deliver(&self, n: usize, f: usize, marks: u16, sender: usize, bit: bool, words: &[u8]) -> u16
+        requires { ⌜ Sized n f ⌝ }
+        requires { ⌜ sender < n ⌝ }
+        ensures gets { λ r. ⌜ ((i : ℕ) → i < n → Sound marks i → isSet r i ≡ bitFrom marks sender bit (now (words .entry)) 0) ⌝ }
+        ensures none { λ r. ⌜ (bitFrom marks sender bit (now (words .entry)) 0 ≡ false → r ≡ 0) ⌝ }
+        ensures all { λ r. ⌜ (bitFrom marks sender bit (now (words .entry)) 0 ≡ true → r ≡ 65535) ⌝ }
+    {
         if bit_from(marks, sender, bit, words, 0) {
             u16::MAX
         } else {

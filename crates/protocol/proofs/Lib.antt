@@ -1,0 +1,9 @@
+pub mod Places
+pub mod Votes
+pub mod Quorums
+pub mod Cycle
+pub mod Ties
+pub mod Closing
+pub mod Steadily
+pub mod Runs
+pub mod Clusters

@@ -1,4 +1,6 @@
 // A box that makes the engine's calls itself, one by one: a control cycle either commits or is left, and the cluster is at rest again.
+#![tactic(auto)]
+
 ghost use Rattle.protocol.specs.Setup.{lent};
 ghost use Rattle.protocol.specs.Clusters.{semantics};
 ghost use Rattle.autopilot.specs.Cycles.{Decides, Flies};

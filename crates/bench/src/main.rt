@@ -1,4 +1,6 @@
 // Runs cycles of the whole engine over the phase king, for a tool that counts instructions from outside: `bench 16 5 4 100` for 16 replicas, 5 of them faulty, 4 sensors and 100 cycles.
+#![tactic(auto)]
+
 ghost use Rattle.std.specs.Prelude.{◌*◌, ◌<◌, ◌≤◌};
 
 use anyhow::anyhow;

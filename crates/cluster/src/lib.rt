@@ -1,4 +1,6 @@
 // The cluster: a typestate for each stage, and the calls that lead from one to the next.
+#![tactic(auto)]
+
 use dispersal::Outcome;
 use questions::{Parameters, Refusal};
 

@@ -1,5 +1,7 @@
 // Four processors and three redundant sensors: one sensor is wrong, one processor lies, and the vote still stands.
 // Each line of the input is a cycle: the sensors' readings, or `-` for one that gives none.
+#![tactic(auto)]
+
 use agreement::deliver;
 use anyhow::anyhow;
 use applications::wheel::{Count, Torque};

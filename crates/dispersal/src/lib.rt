@@ -1,4 +1,6 @@
 // What commit does to the lent tables: the states that are run or taken over, and the vote on the commands.
+#![tactic(auto)]
+
 ghost use Rattle.std.specs.Prelude.{◌≡◌, ◌*◌, ◌&&◌, ◌==◌};
 ghost use Rattle.protocol.specs.Setup.{lent};
 ghost use Rattle.dispersal.specs.Closing.{CloseAnswers};

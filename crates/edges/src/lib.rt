@@ -1,4 +1,6 @@
 // Tests at the edges of what the libraries take: ends of ranges, missing entries, numbers that are no readings.
+#![tactic(auto)]
+
 #[cfg(test)]
 mod agreeing;
 #[cfg(test)]

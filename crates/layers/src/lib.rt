@@ -1,4 +1,6 @@
 // Agreement layers: how one replica's bit reaches all, whatever the faulty say.
+#![tactic(auto)]
+
 pub mod bus;
 pub mod king;
 pub mod layer;

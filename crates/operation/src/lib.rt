@@ -1,4 +1,6 @@
 // Lists of calls, performed one after another on one cluster.
+#![tactic(auto)]
+
 use cluster::{Agreed, Chosen, Filtered, Rest, TakenIn};
 use dispersal::Outcome;
 use questions::Refusal;

@@ -1,4 +1,6 @@
 // The replicated protocol by its meaning, and the promise that sound replicas never part.
+#![tactic(auto)]
+
 ghost use Rattle.protocol.specs.Clusters.{NeverPart, semantics};
 
 use layers::layer::Layer;

@@ -1,4 +1,6 @@
 // What is asked before any work: a cluster's numbers, the sizes of tables, and the number of the first no.
+#![tactic(auto)]
+
 ghost use Rattle.std.specs.Prelude.{◌≡◌};
 ghost use Rattle.questions.specs.Numbers.{Sizable, Bearable};
 ghost use Rattle.questions.specs.Refusals.{number_of};

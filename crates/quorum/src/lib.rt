@@ -1,4 +1,6 @@
 // Counting, the arithmetic on which every quorum stands.
+#![tactic(auto)]
+
 ghost use Rattle.std.specs.Prelude.{◌≡◌, ℕ, ◌-◌, ◌^◌, ◌<◌, ◌≤◌, Bool, ◌&&◌};
 ghost use Rattle.quorum.specs.Counting.{bit, count, lowest};
 ghost use Rattle.quorum.specs.Laws.{CountingLaws, Lowest};

@@ -1,4 +1,6 @@
 // Selections: which candidate's reading a cycle goes on with.
+#![tactic(auto)]
+
 ghost use Rattle.std.specs.Prelude.{◌≡◌, ℕ, ◌<◌, List, length};
 ghost use Rattle.values.specs.declared.Entry.{Entry};
 ghost use Rattle.selections.specs.Choices.{Chooses, no_sensor};

@@ -1,4 +1,6 @@
 // What readings, states and commands mean, entries that carry them, and the majority of entries.
+#![tactic(auto)]
+
 ghost use Rattle.std.specs.Prelude.{◌≡◌, Bool, ◌||◌, T, Decides};
 ghost use Rattle.values.specs.Entries.{present};
 ghost use Rattle.values.specs.Order.{BothWays};

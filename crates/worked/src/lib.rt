@@ -1,4 +1,6 @@
 // The examples worked out by hand: theorems about the definitions, and the code's own answers.
+#![tactic(auto)]
+
 ghost use Rattle.std.specs.Prelude.{◌≡◌, true, false, ℕ, ◌<◌, pos};
 ghost use Rattle.quorum.specs.Counting.{bit};
 ghost use Rattle.values.specs.declared.Entry.TheVariants.{Present, Missing};

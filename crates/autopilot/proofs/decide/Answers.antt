@@ -6,17 +6,17 @@ use Rattle.cluster.specs.Answers.{of_rest, of_taken_in, of_filtered, here}
 use Rattle.autopilot.proofs.Chaining.{same_call, then_on, leaves, stays}
 use Rattle.autopilot.proofs.decide.Goals as goal
 
-pub returns-in-err-taken-in : goal.returns-in-err-taken-in
-returns-in-err-taken-in g c = let p = err_from_is_err_and c.from-residual.result c.from-residual.ensures.1 in rw (p.1, p.2) (stays _ c.in-err-taken-in.ensures)
+pub returns-in_err-taken_in : goal.returns-in_err-taken_in
+returns-in_err-taken_in g c = let p = err_from_is_err_and c.from-residual.result c.from-residual.ensures.1 in rw (p.1, p.2) (stays _ c.in_err-taken_in.ensures)
 
 pub returns-in-Err : goal.returns-in-Err
-returns-in-Err g c = leaves _ of_taken_in taken_in _ _ _ _ _ _ c.in-Err.ensures (_ ∷ []) nothing _ _ _ c.in-ok-taken-in.ensures.carries c.abandon.ensures
+returns-in-Err g c = leaves _ of_taken_in taken_in _ _ _ _ _ _ c.in-Err.ensures (_ ∷ []) nothing _ _ _ c.in_ok-taken_in.ensures.carries c.abandon.ensures
 
 pub returns-in-Err-agree : goal.returns-in-Err-agree
 returns-in-Err-agree g c =
     let t = lent c.args.state.now c.args.own.now c.args.agreed.now c.args.run.now c.args.accept.now c.args.yes.now c.args.heard.now c.args.candidates.now c.args.chosen.now in
     leaves _ of_filtered filtered _ _ _ _ _ _ c.in-Err-agree.ensures (_ ∷ _ ∷ []) nothing _ _ _
-    (then_on _ (_ ∷ []) (here (of_rest c.args.cluster) rest t) c.in-ok-taken-in.ensures.carries c.in-Ok.ensures.carries) c.abandon-in-Err-agree.ensures
+    (then_on _ (_ ∷ []) (here (of_rest c.args.cluster) rest t) c.in_ok-taken_in.ensures.carries c.in-Ok.ensures.carries) c.abandon-in-Err-agree.ensures
 
 pub returns-in-Ok-agree : goal.returns-in-Ok-agree
 returns-in-Ok-agree g c =
@@ -26,6 +26,6 @@ returns-in-Ok-agree g c =
     let i = c.intake.auto in
     let f = c.filter.auto in
     then_on _ (filter (sizes t) a.claims.now ∷ intake (sizes t) a.entries.now ∷ []) q
-    (then_on _ (intake (sizes t) a.entries.now ∷ []) q c.in-ok-taken-in.ensures.carries
+    (then_on _ (intake (sizes t) a.entries.now ∷ []) q c.in_ok-taken_in.ensures.carries
     (same_call _ (ap (λ (z : Sizes). filter z a.claims.now) (same_sizes _ _ refl i.own refl i.run refl refl refl refl refl)) c.in-Ok.ensures.carries))
     (same_call _ (ap (λ (z : Sizes). agree z a.words.now) (same_sizes _ _ refl i.own refl i.run f.accept refl f.heard refl refl)) c.in-Ok-agree.ensures.carries)

@@ -2,14 +2,14 @@ use Rattle.std.proofs.Common.{◌∙◌}
 use Rattle.questions.proofs.Fitting.{granted_fits, granted_long}
 use Rattle.dispersal.proofs.close.Goals as goal
 
-pub write-states-dispersed-requires : goal.write-states-dispersed-requires
-write-states-dispersed-requires g c =
-    let f = granted_fits _ _ _ _ _ c.tables-fit-fit.ensures c.in-default.ensures in
-    let long = granted_long _ _ _ _ _ _ c.input-fits-input.ensures c.in-default.ensures in
+pub write_states-dispersed-requires : goal.write_states-dispersed-requires
+write_states-dispersed-requires g c =
+    let f = granted_fits _ _ _ _ _ c.tables_fit-fit.ensures c.in_default.ensures in
+    let long = granted_long _ _ _ _ _ _ c.input_fits-input.ensures c.in_default.ensures in
     ((f.state, long.0), f.run, f.accept, f.chosen)
 
 pub vote-won-requires : goal.vote-won-requires
 vote-won-requires g c =
-    let f = granted_fits _ _ _ _ _ c.tables-fit-fit.ensures c.in-default.ensures in
-    let long = granted_long _ _ _ _ _ _ c.input-fits-input.ensures c.in-default.ensures in
-    ((c.write-states-dispersed.auto.state ∙ f.state, long.1), f.accept, f.chosen)
+    let f = granted_fits _ _ _ _ _ c.tables_fit-fit.ensures c.in_default.ensures in
+    let long = granted_long _ _ _ _ _ _ c.input_fits-input.ensures c.in_default.ensures in
+    ((c.write_states-dispersed.auto.state ∙ f.state, long.1), f.accept, f.chosen)

@@ -3,8 +3,8 @@ use Rattle.std.proofs.lemmas.Nat.{ones-le}
 use Rattle.quorum.proofs.Bits.{ones_count}
 use Rattle.quorum.proofs.set_bits.Goals as goal
 
-pub overflow-cast-result : goal.overflow-cast-result
-overflow-cast-result c =
+pub overflow_cast-result : goal.overflow_cast-result
+overflow_cast-result c =
     let word : c.args.mask < 2 ^ 16 = omega arith in
     omega (arith, ones-le 16 c.args.mask word)
 

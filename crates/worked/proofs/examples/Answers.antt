@@ -17,6 +17,6 @@ returns c = record {
   minus_one = search rules;
   short = search rules;
   held = search rules;
-  two-faced = λ i l. c.deliver.ensures i (omega arith) (unmarked i l) ∙ king_two_faced i l;
+  two_faced = λ i l. c.deliver.ensures i (omega arith) (unmarked i l) ∙ king_two_faced i l;
   contradicted = λ i l. c.deliver-2.ensures i (omega arith) (unmarked i l) ∙ king_contradicted i l;
 }

@@ -9,17 +9,17 @@ use Rattle.cluster.proofs.Agreed.select.Goals as goal
 pub returns-in-Some : goal.returns-in-Some
 unfolding in_turn
 returns-in-Some g c =
-    rejected _ c.runs_never_part.ensures _ agreed refl _ _ (λ start. verdict-select _ _ _ ∙ stage_told _ _ _ true c.tables-fit-fit.ensures c.in-Some.ensures) _ _ refl _
+    rejected _ c.runs_never_part.ensures _ agreed refl _ _ (λ start. verdict-select _ _ _ ∙ stage_told _ _ _ true c.tables_fit-fit.ensures c.in-Some.ensures) _ _ refl _
 
 pub returns : goal.returns
 unfolding in_turn
 returns g c =
     let s = c.args.selection.now in
-    accepted _ c.runs_never_part.ensures _ agreed refl _ _ _ _ _ _ refl (λ start. g.met.S.Selection.chooses s) (λ start. verdict-select _ _ _ ∙ stage_told _ _ _ true c.tables-fit-fit.ensures c.in-default.ensures)
-    c.to-chosen.ensures (λ start last. record {
+    accepted _ c.runs_never_part.ensures _ agreed refl _ _ _ _ _ _ refl (λ start. g.met.S.Selection.chooses s) (λ start. verdict-select _ _ _ ∙ stage_told _ _ _ true c.tables_fit-fit.ensures c.in_default.ensures)
+    c.to_chosen.ensures (λ start last. record {
       stage = refl;
-      sizes = same_sizes _ _ refl refl refl refl refl refl refl refl c.write-chosen.auto.chosen;
-      chosen = chosen_placed (g.S.Selection.choice s) _ _ _ c.args.agreed.now _ _ c.write-chosen.ensures;
+      sizes = same_sizes _ _ refl refl refl refl refl refl refl refl c.write_chosen.auto.chosen;
+      chosen = chosen_placed (g.S.Selection.choice s) _ _ _ c.args.agreed.now _ _ c.write_chosen.ensures;
       state = refl;
       own = refl;
       run = refl;

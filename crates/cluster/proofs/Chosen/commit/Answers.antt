@@ -10,7 +10,7 @@ pub returns-in-Ok : goal.returns-in-Ok
 unfolding in_turn
 returns-in-Ok g c =
     let k = c.in-Ok.ensures in
-    accepted _ c.runs_never_part.ensures _ chosen refl _ _ _ _ _ _ refl (λ start. tt) (λ start. verdict-commit _ _ _ _ ∙ k.asked) c.at-rest.ensures (λ start last. record {
+    accepted _ c.runs_never_part.ensures _ chosen refl _ _ _ _ _ _ refl (λ start. tt) (λ start. verdict-commit _ _ _ _ ∙ k.asked) c.at_rest.ensures (λ start last. record {
       stage = refl;
       sizes = same_sizes _ _ k.long refl refl refl refl refl refl refl refl;
       state = k.state;

@@ -6,4 +6,4 @@ use Rattle.cluster.proofs.Filtered.abandon.Goals as goal
 
 pub returns : goal.returns
 unfolding in_turn
-returns g c = abandoned _ c.runs_never_part.ensures filtered refl _ _ c.at-rest.ensures
+returns g c = abandoned _ c.runs_never_part.ensures filtered refl _ _ c.at_rest.ensures

@@ -9,16 +9,16 @@ use Rattle.cluster.proofs.Filtered.agree.Goals as goal
 pub returns-in-Some : goal.returns-in-Some
 unfolding in_turn
 returns-in-Some g c =
-    rejected _ c.runs_never_part.ensures _ filtered refl _ _ (λ start. verdict-agree _ _ _ ∙ stage_told _ _ _ true c.tables-fit-fit.ensures c.in-Some.ensures) _ _ refl _
+    rejected _ c.runs_never_part.ensures _ filtered refl _ _ (λ start. verdict-agree _ _ _ ∙ stage_told _ _ _ true c.tables_fit-fit.ensures c.in-Some.ensures) _ _ refl _
 
-pub write-agreed-requires : goal.write-agreed-requires
-write-agreed-requires g c =
+pub write_agreed-requires : goal.write_agreed-requires
+write_agreed-requires g c =
     let a = c.args in
     let p = a.self.parameters in
-    let fit = granted_fits p.n p.sensors (sizes (lent a.state.now a.own.now a.agreed.now a.run.now a.accept.now a.yes.now a.heard.now a.candidates.now a.chosen.now)) _ true c.tables-fit-fit.ensures c.in-default.ensures in (
+    let fit = granted_fits p.n p.sensors (sizes (lent a.state.now a.own.now a.agreed.now a.run.now a.accept.now a.yes.now a.heard.now a.candidates.now a.chosen.now)) _ true c.tables_fit-fit.ensures c.in_default.ensures in (
       (omega arith, (omega arith, (omega arith, omega arith))),
-      (fit.own, (fit.accept, (c.write-yes.auto.yes ∙ fit.yes, (fit.heard, fit.agreed)))),
-      yes_below (g.L.Layer.delivered a.self.layer p.n p.f p.marks) (g.L.Layer.size a.self.layer p.n p.f) _ _ _ a.accept.now a.words.now _ _ c.write-yes.ensures,
+      (fit.own, (fit.accept, (c.write_yes.auto.yes ∙ fit.yes, (fit.heard, fit.agreed)))),
+      yes_below (g.L.Layer.delivered a.self.layer p.n p.f p.marks) (g.L.Layer.size a.self.layer p.n p.f) _ _ _ a.accept.now a.words.now _ _ c.write_yes.ensures,
     )
 
 pub returns : goal.returns
@@ -26,13 +26,13 @@ unfolding in_turn
 returns g c =
     let a = c.args in
     let p = a.self.parameters in
-    accepted _ c.runs_never_part.ensures _ filtered refl _ _ _ _ _ _ refl (λ start. tt) (λ start. verdict-agree _ _ _ ∙ stage_told _ _ _ true c.tables-fit-fit.ensures c.in-default.ensures) c.to-agreed.ensures
+    accepted _ c.runs_never_part.ensures _ filtered refl _ _ _ _ _ _ refl (λ start. tt) (λ start. verdict-agree _ _ _ ∙ stage_told _ _ _ true c.tables_fit-fit.ensures c.in_default.ensures) c.to_agreed.ensures
     (λ start last. record {
       stage = refl;
-      sizes = same_sizes _ _ refl refl c.write-agreed.auto.agreed refl refl c.write-yes.auto.yes refl c.write-candidates.auto.candidates refl;
-      yes = yes_placed (g.L.Layer.delivered a.self.layer p.n p.f p.marks) (g.L.Layer.size a.self.layer p.n p.f) _ _ _ a.accept.now a.words.now _ _ c.write-yes.ensures;
-      agreed = agreed_placed g.row.Reading-Value.means g.row.Reading-Value.alike _ p.f _ _ a.own.now a.accept.now c.write-yes.new.yes a.heard.now _ _ c.write-agreed.ensures;
-      candidates = candidates_placed _ _ _ c.write-agreed.new.agreed _ _ c.write-candidates.ensures;
+      sizes = same_sizes _ _ refl refl c.write_agreed.auto.agreed refl refl c.write_yes.auto.yes refl c.write_candidates.auto.candidates refl;
+      yes = yes_placed (g.L.Layer.delivered a.self.layer p.n p.f p.marks) (g.L.Layer.size a.self.layer p.n p.f) _ _ _ a.accept.now a.words.now _ _ c.write_yes.ensures;
+      agreed = agreed_placed g.row.Reading-Value.means g.row.Reading-Value.alike _ p.f _ _ a.own.now a.accept.now c.write_yes.new.yes a.heard.now _ _ c.write_agreed.ensures;
+      candidates = candidates_placed _ _ _ c.write_agreed.new.agreed _ _ c.write_candidates.ensures;
       state = refl;
       own = refl;
       run = refl;

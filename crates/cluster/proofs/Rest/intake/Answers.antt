@@ -12,7 +12,7 @@ use Rattle.cluster.proofs.Rest.intake.Goals as goal
 pub returns-in-Some : goal.returns-in-Some
 unfolding in_turn
 returns-in-Some g c =
-    rejected _ c.runs_never_part.ensures _ rest refl _ _ (λ start. verdict-intake _ _ _ ∙ stage_told _ _ _ _ c.tables-fit-fit.ensures c.in-Some.ensures) _ _ refl _
+    rejected _ c.runs_never_part.ensures _ rest refl _ _ (λ start. verdict-intake _ _ _ ∙ stage_told _ _ _ _ c.tables_fit-fit.ensures c.in-Some.ensures) _ _ refl _
 
 pub returns : goal.returns
 unfolding in_turn
@@ -20,13 +20,13 @@ returns g c =
     let a = c.args in
     let w = semantics g.row.Reading-Value g.row.State-Value g.row.Command-Value g.A.Application g.L.Layer in
     let t = lent a.state.now a.own.now a.agreed.now a.run.now a.accept.now a.yes.now a.heard.now a.candidates.now a.chosen.now in
-    let fit : Fits a.self.parameters.n a.self.parameters.sensors (sizes t) = granted_fits _ _ _ _ _ c.tables-fit-fit.ensures c.in-default.ensures in
+    let fit : Fits a.self.parameters.n a.self.parameters.sensors (sizes t) = granted_fits _ _ _ _ _ c.tables_fit-fit.ensures c.in_default.ensures in
     accepted w c.runs_never_part.ensures (intake (sizes t) a.entries.now) rest refl (of_rest a.self) taken_in t _ nothing _ refl (λ start. tt)
-    (λ start. verdict-intake _ _ _ ∙ stage_told _ _ _ _ c.tables-fit-fit.ensures c.in-default.ensures) c.to-taken-in.ensures (λ start last. record {
+    (λ start. verdict-intake _ _ _ ∙ stage_told _ _ _ _ c.tables_fit-fit.ensures c.in_default.ensures) c.to_taken_in.ensures (λ start last. record {
       stage = refl;
-      sizes = same_sizes _ _ refl c.write-own.auto.own refl c.write-run.auto.run refl refl refl refl refl;
-      own = own_placed _ _ _ _ _ _ (λ p h. c.write-own.ensures p (omega (arith, fit.own)));
-      run = run_placed (config w (of_rest a.self) start) _ _ _ _ _ _ _ (sym fit.state) (c.write-run.auto.run ∙ fit.run) (λ p h. c.write-run.ensures p (omega (arith, fit.run)));
+      sizes = same_sizes _ _ refl c.write_own.auto.own refl c.write_run.auto.run refl refl refl refl refl;
+      own = own_placed _ _ _ _ _ _ (λ p h. c.write_own.ensures p (omega (arith, fit.own)));
+      run = run_placed (config w (of_rest a.self) start) _ _ _ _ _ _ _ (sym fit.state) (c.write_run.auto.run ∙ fit.run) (λ p h. c.write_run.ensures p (omega (arith, fit.run)));
       state = refl;
       agreed = refl;
       accept = refl;

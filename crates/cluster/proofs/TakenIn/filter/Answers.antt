@@ -9,17 +9,17 @@ use Rattle.cluster.proofs.TakenIn.filter.Goals as goal
 pub returns-in-Some : goal.returns-in-Some
 unfolding in_turn
 returns-in-Some g c =
-    rejected _ c.runs_never_part.ensures _ taken_in refl _ _ (λ start. verdict-filter _ _ _ ∙ stage_told _ _ _ _ c.tables-fit-fit.ensures c.in-Some.ensures) _ _ refl _
+    rejected _ c.runs_never_part.ensures _ taken_in refl _ _ (λ start. verdict-filter _ _ _ ∙ stage_told _ _ _ _ c.tables_fit-fit.ensures c.in-Some.ensures) _ _ refl _
 
 pub returns : goal.returns
 unfolding in_turn
 returns g c =
-    accepted _ c.runs_never_part.ensures _ taken_in refl _ _ _ _ _ _ refl (λ start. tt) (λ start. verdict-filter _ _ _ ∙ stage_told _ _ _ _ c.tables-fit-fit.ensures c.in-default.ensures) c.to-filtered.ensures
+    accepted _ c.runs_never_part.ensures _ taken_in refl _ _ _ _ _ _ refl (λ start. tt) (λ start. verdict-filter _ _ _ ∙ stage_told _ _ _ _ c.tables_fit-fit.ensures c.in_default.ensures) c.to_filtered.ensures
     (λ start last. record {
       stage = refl;
-      sizes = same_sizes _ _ refl refl refl refl c.write-accept.auto.accept refl c.write-heard.auto.heard refl refl;
-      heard = λ j hj i k hi hk. heard_placed _ _ _ _ _ _ _ c.write-heard.ensures i j k hi hj hk;
-      accept = accept_placed g.row.Reading-Value.alike _ c.args.self.parameters.f _ _ c.args.own.now c.write-heard.new.heard _ _ c.write-accept.ensures;
+      sizes = same_sizes _ _ refl refl refl refl c.write_accept.auto.accept refl c.write_heard.auto.heard refl refl;
+      heard = λ j hj i k hi hk. heard_placed _ _ _ _ _ _ _ c.write_heard.ensures i j k hi hj hk;
+      accept = accept_placed g.row.Reading-Value.alike _ c.args.self.parameters.f _ _ c.args.own.now c.write_heard.new.heard _ _ c.write_accept.ensures;
       state = refl;
       own = refl;
       run = refl;

@@ -4,10 +4,10 @@ use Rattle.values.specs.declared.Entry.{Entry}
 use Rattle.protocol.specs.Tables.{MaskOf}
 use Rattle.cluster.proofs.Masks.{mask_yes, mask_no}
 use Rattle.cluster.proofs.agree.mask_of.Goals as goal
-use Rattle.cluster.proofs.agree.mask_of.Goals.{then-is-present, else-is-present}
+use Rattle.cluster.proofs.agree.mask_of.Goals.{then-is_present, else-is_present}
 
-pub overflow-cast-result : goal.overflow-cast-result
-overflow-cast-result g c =
+pub overflow_cast-result : goal.overflow_cast-result
+overflow_cast-result g c =
     let small : c.loop-k.k ≤ 4 = omega arith in
     let high : 2 ^ c.loop-k.k ≤ 2 ^ 4 = pow_mono small in
     omega (arith, c.loop-k.invariant.below)
@@ -17,10 +17,10 @@ loop-k-preserved g c =
     let agreed = c.args.agreed.now in
     let k = c.loop-k.k in
     let test : ℕ → Bool = λ q. present (entry_at agreed (c.args.i * c.args.sensors + q)) in
-    let at : present c.entry-at.result ≡ test k = ap (λ (e : Entry g.row.R.Denot). present e) c.entry-at.ensures ∙ ap (λ (p : ℕ). present (entry_at agreed p)) c.place.ensures.is in
-    elim c.if-is-present.branch [
-      | then-is-present w ↦ mask_yes test c.loop-k.mask k (omega arith) c.loop-k.invariant (sym at ∙ sym w.if-is-present.ensures) c.if-is-present.mask w.mask-is
-      | else-is-present w ↦ mask_no test c.loop-k.mask k (omega arith) c.loop-k.invariant (sym at ∙ sym w.if-is-present.ensures) c.if-is-present.mask w.mask-is
+    let at : present c.entry_at.result ≡ test k = ap (λ (e : Entry g.row.R.Denot). present e) c.entry_at.ensures ∙ ap (λ (p : ℕ). present (entry_at agreed p)) c.place.ensures.is in
+    elim c.if-is_present.branch [
+      | then-is_present w ↦ mask_yes test c.loop-k.mask k (omega arith) c.loop-k.invariant (sym at ∙ sym w.if-is_present.ensures) c.if-is_present.mask w.mask-is
+      | else-is_present w ↦ mask_no test c.loop-k.mask k (omega arith) c.loop-k.invariant (sym at ∙ sym w.if-is_present.ensures) c.if-is_present.mask w.mask-is
     ]
 
 pub returns : goal.returns

@@ -7,22 +7,22 @@ use Rattle.protocol.specs.Model.{agrees}
 use Rattle.cluster.specs.Writing.{heard_row}
 use Rattle.protocol.proofs.Sweep.{swept_left, swept_wrote}
 use Rattle.cluster.proofs.agree.write_agreed.Goals as goal
-use Rattle.cluster.proofs.agree.write_agreed.Goals.{then-is-sound, else-is-sound}
+use Rattle.cluster.proofs.agree.write_agreed.Goals.{then-is_sound, else-is_sound}
 
-pub agree-on-requires : goal.agree-on-requires
-agree-on-requires g c =
+pub agree_on-requires : goal.agree_on-requires
+agree_on-requires g c =
     let n = c.args.n in
     let sensors = c.args.sensors in
     let p = c.loop-p.p in
-    (omega arith, (c.requires.2 p (omega arith) (sym c.if-is-sound.ensures), (omega arith, omega arith, div_below p sensors n (omega arith) (omega arith), mod_below p sensors (omega arith), omega arith)))
+    (omega arith, (c.requires.2 p (omega arith) (sym c.if-is_sound.ensures), (omega arith, omega arith, div_below p sensors n (omega arith) (omega arith), mod_below p sensors (omega arith), omega arith)))
 
 pub loop-p-preserved : goal.loop-p-preserved
 loop-p-preserved g c =
     let a = c.args in
     let p = c.loop-p.p in
-    elim c.if-is-sound.branch [
-      | then-is-sound w ↦
-          let P : Entry g.row.R.Denot → Type 0 = λ o. SameEntry g.row.R-Value.means w.agree-on.result (agrees g.row.R-Value.alike a.n a.f (bit (get_or a.yes.now p 0)) (get_or a.accept.now p false) o (heard_row a.n a.sensors a.heard.now (p / a.sensors) (p % a.sensors))) in
-          swept_wrote _ _ c.if-is-sound.agreed w.agree-on.result w.agreed-is (omega arith) (sym w.if-is-sound.ensures) (subst P w.entry-at.ensures w.agree-on.ensures) c.loop-p.invariant
-      | else-is-sound w ↦ swept_left _ _ c.if-is-sound.agreed w.agreed-is (sym w.if-is-sound.ensures) c.loop-p.invariant
+    elim c.if-is_sound.branch [
+      | then-is_sound w ↦
+          let P : Entry g.row.R.Denot → Type 0 = λ o. SameEntry g.row.R-Value.means w.agree_on.result (agrees g.row.R-Value.alike a.n a.f (bit (get_or a.yes.now p 0)) (get_or a.accept.now p false) o (heard_row a.n a.sensors a.heard.now (p / a.sensors) (p % a.sensors))) in
+          swept_wrote _ _ c.if-is_sound.agreed w.agree_on.result w.agreed-is (omega arith) (sym w.if-is_sound.ensures) (subst P w.entry_at.ensures w.agree_on.ensures) c.loop-p.invariant
+      | else-is_sound w ↦ swept_left _ _ c.if-is_sound.agreed w.agreed-is (sym w.if-is_sound.ensures) c.loop-p.invariant
     ]

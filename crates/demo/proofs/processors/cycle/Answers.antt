@@ -10,11 +10,11 @@ pub returns : goal.returns
 returns c =
     let ps = c.args.processors.now in
     let readings = c.args.readings.now in
-    let reading : c.reading-at.result ≡ reading_of readings = c.reading-at.ensures ∙ ap (entry_at readings) c.choose-chosen.ensures.value in
-    let moved : c.take-all.new.processors ≡ map (taken (reading_of readings)) ps = c.take-all.ensures ∙ ap (λ (e : Entry Count). map (taken e) ps) reading in
+    let reading : c.reading_at.result ≡ reading_of readings = c.reading_at.ensures ∙ ap (entry_at readings) c.choose-chosen.ensures.value in
+    let moved : c.take_all.new.processors ≡ map (taken (reading_of readings)) ps = c.take_all.ensures ∙ ap (λ (e : Entry Count). map (taken e) ps) reading in
     record {
       chosen = c.choose-chosen.ensures.value;
       moved = moved;
       voted = c.vote.ensures.voted;
-      carried = carried_on ps c.take-all.new.processors readings c.vote.result moved c.vote.ensures.sound;
+      carried = carried_on ps c.take_all.new.processors readings c.vote.result moved c.vote.ensures.sound;
     }

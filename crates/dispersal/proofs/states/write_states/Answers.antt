@@ -7,7 +7,7 @@ loop-i-init g c = moved_none _ _ _ _ _
 
 pub loop-i-preserved : goal.loop-i-preserved
 loop-i-preserved g c =
-    moved_on _ _ _ _ c.next-of-next.result c.put.result c.put.new.state c.next-of-next.ensures c.put.ensures.taken (omega arith) c.put.ensures.state c.loop-i.invariant
+    moved_on _ _ _ _ c.next_of-next.result c.put.result c.put.new.state c.next_of-next.ensures c.put.ensures.taken (omega arith) c.put.ensures.state c.loop-i.invariant
 
 pub returns : goal.returns
 returns g c =

@@ -11,5 +11,5 @@ returns-in-Ok g c = follows _ (ap (asked g.Z.Selection.choice _) c.in-Intake.is)
 pub returns-in-Err : goal.returns-in-Err
 returns-in-Err g c = comes_back _ (ap (asked g.Z.Selection.choice _) c.in-Intake.is) of_rest c.in-Err.ensures
 
-pub returns-in-default : goal.returns-in-default
-returns-in-default g c = passes _ c.runs_never_part.ensures _ rest (out_at_rest g.Z.Selection.choice _ c.args.call.now c.in-default.not-Intake c.in-default.not-Look) _ _
+pub returns-in_default : goal.returns-in_default
+returns-in_default g c = passes _ c.runs_never_part.ensures _ rest (out_at_rest g.Z.Selection.choice _ c.args.call.now c.in_default.not-Intake c.in_default.not-Look) _ _

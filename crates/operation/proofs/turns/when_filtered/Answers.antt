@@ -14,5 +14,5 @@ returns-in-Err g c = comes_back _ (ap (asked g.Z.Selection.choice _) c.in-Agree.
 pub returns-in-Abandon : goal.returns-in-Abandon
 returns-in-Abandon g c = follows _ (ap (asked g.Z.Selection.choice _) c.in-Abandon.is) refl (c.abandon.ensures _).carries
 
-pub returns-in-default : goal.returns-in-default
-returns-in-default g c = passes _ c.runs_never_part.ensures _ filtered (out_at_filtered g.Z.Selection.choice _ c.args.call.now c.in-default.not-Agree c.in-default.not-Abandon) _ _
+pub returns-in_default : goal.returns-in_default
+returns-in_default g c = passes _ c.runs_never_part.ensures _ filtered (out_at_filtered g.Z.Selection.choice _ c.args.call.now c.in_default.not-Agree c.in_default.not-Abandon) _ _

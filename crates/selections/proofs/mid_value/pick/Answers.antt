@@ -3,10 +3,10 @@ use Rattle.std.proofs.lemmas.Bool.Decides.{not_from_Decides}
 use Rattle.selections.specs.Picks.{Picked}
 use Rattle.selections.proofs.Picking.{pick_takes, pick_stays, picked_within}
 use Rattle.selections.proofs.mid_value.pick.Goals as goal
-use Rattle.selections.proofs.mid_value.pick.Goals.{then-takes-over, else-takes-over}
+use Rattle.selections.proofs.mid_value.pick.Goals.{then-takes_over, else-takes_over}
 
-pub takes-over-requires : goal.takes-over-requires
-takes-over-requires g c =
+pub takes_over-requires : goal.takes_over-requires
+takes_over-requires g c =
     let o = g.met.R.Ordered in
     let inside = picked_within g.row.R-Value.means g.R.Ordered.leq o.total o.transitive o.congruent c.args.readings.now c.loop-k.k c.loop-k.pick in
     record { half = c.requires; within = c.loop-k-test.true; picked = λ p e. omega (arith, inside p c.loop-k.invariant e) }
@@ -18,12 +18,12 @@ loop-k-preserved g c =
     let readings = c.args.readings.now in
     let k = c.loop-k.k in
     let P : Option ℕ → Type 0 = Picked leq readings (k + 1) in
-    elim c.if-takes-over.branch [
-      | then-takes-over w ↦
-          let d = c.takes-over.ensures.0 w.if-takes-over.true in
+    elim c.if-takes_over.branch [
+      | then-takes_over w ↦
+          let d = c.takes_over.ensures.0 w.if-takes_over.true in
           subst P (sym w.pick-is) (pick_takes g.row.R-Value.means leq o.total o.transitive o.congruent readings k c.loop-k.pick c.loop-k.invariant d.0 d.1)
-      | else-takes-over w ↦
-          subst P (sym w.pick-is) (pick_stays g.row.R-Value.means leq o.total o.transitive o.congruent readings k c.loop-k.pick c.loop-k.invariant (not_from_Decides c.takes-over.result c.takes-over.ensures w.if-takes-over.false))
+      | else-takes_over w ↦
+          subst P (sym w.pick-is) (pick_stays g.row.R-Value.means leq o.total o.transitive o.congruent readings k c.loop-k.pick c.loop-k.invariant (not_from_Decides c.takes_over.result c.takes_over.ensures w.if-takes_over.false))
     ]
 
 pub returns : goal.returns

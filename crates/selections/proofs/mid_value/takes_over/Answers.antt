@@ -18,6 +18,6 @@ returns-in-Some g c =
     let leq = g.R.Ordered.leq in
     let k = c.args.k in
     let p = c.in-Some.p in
-    by_pick c.args.pick p (λ q. below leq readings q k) c.at-most.result c.in-Some.is
-    (c.at-most.ensures ∙ below_read leq readings p k c.index-readings-p.result c.index-readings-k.result (c.requires.picked p c.in-Some.is) c.requires.within c.index-readings-p.is c.index-readings-k.is)
-    (subst T c.if-not-is-reached.ensures tt)
+    by_pick c.args.pick p (λ q. below leq readings q k) c.at_most.result c.in-Some.is
+    (c.at_most.ensures ∙ below_read leq readings p k c.index-readings-p.result c.index-readings-k.result (c.requires.picked p c.in-Some.is) c.requires.within c.index-readings-p.is c.index-readings-k.is)
+    (subst T c.if-not-is_reached.ensures tt)

@@ -4,11 +4,11 @@ use Rattle.values.proofs.Majorities.{lead_start, lead_step}
 use Rattle.values.proofs.entries.leader.Goals as goal
 
 pub loop-i-init : goal.loop-i-init
-loop-i-init g c = (lead_start g.Item-as-Value.means g.Item-as-Value.alike g.met.E.Item.Value.sameness (g.E.Entries.entry c.args.entries.now), omega arith)
+loop-i-init g c = (lead_start g.E.Item.Value.means g.E.Item.Value.alike g.met.E.Item.Value.sameness (g.E.Entries.entry c.args.entries.now), omega arith)
 
 pub loop-i-preserved : goal.loop-i-preserved
 loop-i-preserved g c = (
-  lead_step g.Item-as-Value.means g.Item-as-Value.alike g.met.E.Item.Value.sameness c.loop-i.i (g.E.Entries.entry c.args.entries.now) c.at.result _ _ _ _
+  lead_step g.E.Item.Value.means g.E.Item.Value.alike g.met.E.Item.Value.sameness c.loop-i.i (g.E.Entries.entry c.args.entries.now) c.at.result _ _ _ _
       c.at.ensures c.loop-i.invariant.0 c.weigh-lead.ensures,
   omega (arith, c.weigh-lead.ensures.slow),
 )
@@ -16,4 +16,4 @@ loop-i-preserved g c = (
 pub returns : goal.returns
 returns g c =
     let same : c.loop-i.i ≡ g.E.Entries.size c.args.entries.now = omega arith in
-    subst (λ (k : ℕ). Leads g.Item-as-Value.alike k (g.E.Entries.entry c.args.entries.now) c.loop-i.lead.holder c.loop-i.lead.margin) same c.loop-i.invariant.0
+    subst (λ (k : ℕ). Leads g.E.Item.Value.alike k (g.E.Entries.entry c.args.entries.now) c.loop-i.lead.holder c.loop-i.lead.margin) same c.loop-i.invariant.0

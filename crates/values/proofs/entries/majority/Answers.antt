@@ -4,19 +4,19 @@ use Rattle.values.specs.Entries.{present}
 use Rattle.values.specs.declared.Entry.TheVariants.{Present, Missing}
 use Rattle.values.proofs.Majorities.{led_fails, led_missing, voted}
 use Rattle.values.proofs.entries.majority.Goals as goal
-use Rattle.values.proofs.entries.majority.Goals.{in-Present+else-carried-all, in-default}
+use Rattle.values.proofs.entries.majority.Goals.{in-Present+else-carried-all, in_default}
 
 -- a majority of all entries is one of those present too, so only a missed one is wrong
 pub returns-then-carried-all : goal.returns-then-carried-all
 returns-then-carried-all g c =
     let n = g.E.Entries.size c.args.entries.now in
     let entry = g.E.Entries.entry c.args.entries.now in
-    voted g.Item-as-Value.means g.Item-as-Value.alike g.met.E.Item.Value.sameness n entry (Present c.in-Present.x) (omega (arith, count_le n (λ i. present (entry i))))
+    voted g.E.Item.Value.means g.E.Item.Value.alike g.met.E.Item.Value.sameness n entry (Present c.in-Present.x) (omega (arith, count_le n (λ i. present (entry i))))
 
 pub returns : goal.returns
 returns g c =
-    let means = g.Item-as-Value.means in
-    let alike = g.Item-as-Value.alike in
+    let means = g.E.Item.Value.means in
+    let alike = g.E.Item.Value.alike in
     let law = g.met.E.Item.Value.sameness in
     let n = g.E.Entries.size c.args.entries.now in
     let entry = g.E.Entries.entry c.args.entries.now in
@@ -24,5 +24,5 @@ returns g c =
     voted means alike law n entry Missing
     (elim c.match-lead.branch [
       | in-Present+else-carried-all w ↦ led_fails means alike law n entry lead.holder lead.margin c.leader-lead.ensures w.in-Present.x w.in-Present.is (λ most. omega arith)
-      | in-default w ↦ led_missing means alike law n entry lead.holder lead.margin c.leader-lead.ensures w.in-default.is
+      | in_default w ↦ led_missing means alike law n entry lead.holder lead.margin c.leader-lead.ensures w.in_default.is
     ])

@@ -2,8 +2,8 @@ use Rattle.std.proofs.Common.{rules}
 use Rattle.applications.specs.LevelLaws.{literals, step_level, step_value}
 use Rattle.applications.proofs.damped.DampedApplication.step.Goals as goal
 
-pub invariant-of-result : goal.invariant-of-result
-invariant-of-result c = (step_level c.args.state.now c.args.reading.now _ (search (rules, literals)), tt)
+pub invariant_of-result : goal.invariant_of-result
+invariant_of-result c = (step_level c.args.state.now c.args.reading.now _ (search (rules, literals)), tt)
 
 pub returns : goal.returns
 returns c = let e = step_value c.args.state.now c.args.reading.now in search (rules, literals)

@@ -5,8 +5,8 @@ use Rattle.applications.specs.LevelLaws.{holds, literals, from_level}
 use Rattle.applications.proofs.level.Level.from_f64.Goals as goal
 
 -- `lt_le` lets a test at an open end pass here, so that only the refusal of that end is wrong
-pub invariant-of-result : goal.invariant-of-result
-invariant-of-result c = search (rules, literals, holds, lt_le, and_i, from_level)
+pub invariant_of-result : goal.invariant_of-result
+invariant_of-result c = search (rules, literals, holds, lt_le, and_i, from_level)
 
 pub returns-then-x-2 : goal.returns-then-x-2
 returns-then-x-2 c = search (rules, literals, holds, lt_le, and_i)

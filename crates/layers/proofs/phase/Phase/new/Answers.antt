@@ -3,8 +3,8 @@ use Rattle.layers.specs.King.{phase_size}
 use Rattle.layers.proofs.Same.{phase_start}
 use Rattle.layers.proofs.phase.Phase.new.Goals as goal
 
-pub invariant-of-result : goal.invariant-of-result
-invariant-of-result c =
-    let starts : c.args.n + c.args.king * c.phase-size.result ≡ c.args.n + c.args.king * phase_size c.args.n =
-    ap (λ (size : ℕ). c.args.n + c.args.king * size) c.phase-size.ensures in
+pub invariant_of-result : goal.invariant_of-result
+invariant_of-result c =
+    let starts : c.args.n + c.args.king * c.phase_size.result ≡ c.args.n + c.args.king * phase_size c.args.n =
+    ap (λ (size : ℕ). c.args.n + c.args.king * size) c.phase_size.ensures in
     (c.requires.0.0, (c.requires.0.1, (c.requires.1, (starts, (omega (arith, phase_start c.args.n c.args.f c.args.king c.requires.0 c.requires.1), tt)))))

@@ -7,5 +7,5 @@ pub loop-i-preserved : goal.loop-i-preserved
 loop-i-preserved c = (
   simp length-set c.loop-i.invariant.0,
   table_more c.loop-i.taken (taken_at (given c.args.self.now) c.args.self.now.king (said_of c.args.proposals.now) (bits_of c.args.bits.now))
-      c.loop-i.i c.take-proposed.result (record { bit = false; firm = false }) (omega arith) c.loop-i.invariant.1 c.take-proposed.ensures,
+      c.loop-i.i c.take_proposed.result (record { bit = false; firm = false }) (omega arith) c.loop-i.invariant.1 c.take_proposed.ensures,
 )

@@ -8,7 +8,7 @@ use Rattle.selections.proofs.mid_value.pick.Goals.{then-takes_over, else-takes_o
 pub takes_over-requires : goal.takes_over-requires
 takes_over-requires g c =
     let o = g.met.R.Ordered in
-    let inside = picked_within g.row.R-Value.means g.R.Ordered.leq o.total o.transitive o.congruent c.args.readings.now c.loop-k.k c.loop-k.pick in
+    let inside = picked_within g.R.Value.means g.R.Ordered.leq o.total o.transitive o.congruent c.args.readings.now c.loop-k.k c.loop-k.pick in
     record { half = c.requires; within = c.loop-k-test.true; picked = λ p e. omega (arith, inside p c.loop-k.invariant e) }
 
 pub loop-k-preserved : goal.loop-k-preserved
@@ -21,9 +21,9 @@ loop-k-preserved g c =
     elim c.if-takes_over.branch [
       | then-takes_over w ↦
           let d = c.takes_over.ensures.0 w.if-takes_over.true in
-          subst P (sym w.pick-is) (pick_takes g.row.R-Value.means leq o.total o.transitive o.congruent readings k c.loop-k.pick c.loop-k.invariant d.0 d.1)
+          subst P (sym w.pick-is) (pick_takes g.R.Value.means leq o.total o.transitive o.congruent readings k c.loop-k.pick c.loop-k.invariant d.0 d.1)
       | else-takes_over w ↦
-          subst P (sym w.pick-is) (pick_stays g.row.R-Value.means leq o.total o.transitive o.congruent readings k c.loop-k.pick c.loop-k.invariant (not_from_Decides c.takes_over.result c.takes_over.ensures w.if-takes_over.false))
+          subst P (sym w.pick-is) (pick_stays g.R.Value.means leq o.total o.transitive o.congruent readings k c.loop-k.pick c.loop-k.invariant (not_from_Decides c.takes_over.result c.takes_over.ensures w.if-takes_over.false))
     ]
 
 pub returns : goal.returns

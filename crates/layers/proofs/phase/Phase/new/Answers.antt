@@ -7,4 +7,10 @@ pub invariant_of-result : goal.invariant_of-result
 invariant_of-result c =
     let starts : c.args.n + c.args.king * c.phase_size.result ≡ c.args.n + c.args.king * phase_size c.args.n =
     ap (λ (size : ℕ). c.args.n + c.args.king * size) c.phase_size.ensures in
-    (c.requires.0.0, (c.requires.0.1, (c.requires.1, (starts, (omega (arith, phase_start c.args.n c.args.f c.args.king c.requires.0 c.requires.1), tt)))))
+    record {
+      small = c.requires.0.0;
+      few = c.requires.0.1;
+      turn = c.requires.1;
+      starts = starts;
+      low = omega (arith, phase_start c.args.n c.args.f c.args.king c.requires.0 c.requires.1);
+    }

@@ -1,6 +1,6 @@
 use Rattle.std.proofs.Common.{◌≡◌, ℕ, ◌<◌, length}
 use Rattle.layers.specs.King.{proposal}
-use Rattle.layers.specs.Views.{goal as given_of, bits_of, said_of}
+use Rattle.layers.specs.Views.{given as given_of, bits_of, said_of}
 use Rattle.layers.proofs.phase.Phase.propose_all.Given as goal
 
 abbrev pub invariant-loop-i : goal.invariant-loop-i

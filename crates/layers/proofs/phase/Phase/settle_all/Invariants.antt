@@ -1,5 +1,5 @@
 use Rattle.std.proofs.Common.{◌≡◌, ℕ, ◌<◌, length}
-use Rattle.layers.specs.Views.{goal as given_of, bits_of, settled_by, taken_of}
+use Rattle.layers.specs.Views.{given as given_of, bits_of, settled_by, taken_of}
 use Rattle.layers.proofs.phase.Phase.settle_all.Given as goal
 
 abbrev pub invariant-loop-i : goal.invariant-loop-i

@@ -1,5 +1,5 @@
 use Rattle.std.proofs.Common.{◌≡◌, ℕ, ◌<◌, length}
-use Rattle.layers.specs.Views.{goal as given_of, bits_of, said_of, taken_at, taken_of}
+use Rattle.layers.specs.Views.{given as given_of, bits_of, said_of, taken_at, taken_of}
 use Rattle.layers.proofs.phase.Phase.take_all.Given as goal
 
 abbrev pub invariant-loop-i : goal.invariant-loop-i

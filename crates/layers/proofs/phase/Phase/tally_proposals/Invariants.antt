@@ -1,6 +1,6 @@
 use Rattle.std.proofs.Common.{◌≡◌}
 use Rattle.layers.specs.King.{heard}
-use Rattle.layers.specs.Views.{goal as given_of, said_of, Counted}
+use Rattle.layers.specs.Views.{given as given_of, said_of, Counted}
 use Rattle.layers.proofs.phase.Phase.tally_proposals.Given as goal
 
 -- the place counted beside is the index, and the tally is of the places before it

@@ -1,6 +1,6 @@
 use Rattle.std.proofs.Common.{◌≡◌}
 use Rattle.layers.specs.King.{aloud, heard}
-use Rattle.layers.specs.Views.{goal as given_of, bits_of, Counted}
+use Rattle.layers.specs.Views.{given as given_of, bits_of, Counted}
 use Rattle.layers.proofs.phase.Phase.tally_votes.Given as goal
 
 -- the place counted beside is the index, and the tally is of the places before it

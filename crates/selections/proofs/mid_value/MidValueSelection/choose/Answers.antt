@@ -15,7 +15,7 @@ overflow_cast-result g c = omega (arith, c.in-Some.ensures.within)
 pub returns-in-Some : goal.returns-in-Some
 returns-in-Some g c =
     let o = g.met.R.Ordered in
-    let means = g.row.R-Value.means in
+    let means = g.R.Value.means in
     let leq = g.R.Ordered.leq in
     let readings = c.args.readings.now in
     let e : c.in-Some.k ≡ mid_value leq readings = picked_some means leq o.total o.transitive o.congruent readings c.in-Some.k c.in-Some.ensures in
@@ -28,7 +28,7 @@ returns-in-Some g c =
 pub returns-in-None : goal.returns-in-None
 returns-in-None g c =
     let o = g.met.R.Ordered in
-    let means = g.row.R-Value.means in
+    let means = g.R.Value.means in
     let leq = g.R.Ordered.leq in
     let readings = c.args.readings.now in
     let e : 255 ≡ mid_value leq readings = picked_none means leq o.total o.transitive o.congruent readings c.in-None.ensures in

@@ -1,5 +1,5 @@
 -- Laws of `count` and `lowest`.
-use Rattle.std.proofs.Common.{◌≡◌, ℕ, zero, suc, ◌+◌, ◌-◌, ◌<◌, ◌≤◌, Bool, true, false, cond, not, ◌&&◌, T, sym, refl, ap, subst, inl, inr, le_refl, eq-zero-or-pos, add-one, arith}
+use Rattle.std.proofs.Common.{◌≡◌, ℕ, zero, suc, ◌+◌, ◌<◌, ◌≤◌, Bool, true, false, cond, not, ◌&&◌, T, sym, refl, ap, subst, inl, inr, le_refl, eq-zero-or-pos, add-one, arith}
 use native.Mathlib.Decide.{le_ind}
 use Rattle.std.proofs.lemmas.Bool.{cases_eq, cases_lt, not_from_false}
 use Rattle.quorum.specs.Counting.{count, lowest}

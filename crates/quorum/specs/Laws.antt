@@ -1,6 +1,6 @@
 -- What holds of every count.
 use Rattle.std.specs.Prelude.{◌≡◌, ℕ, ◌+◌, ◌<◌, ◌≤◌, Bool, not, ◌&&◌, T}
-use Rattle.quorum.specs.Counting.{count, lowest}
+use Rattle.quorum.specs.Counting.{count}
 
 -- The laws of counting: every promise about quorums rests on these.
 pub record CountingLaws : Type 0 where

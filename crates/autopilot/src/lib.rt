@@ -26,7 +26,7 @@ fn decide<A: Application, L: Layer>(
     candidates: &mut [u8],
     chosen: &mut [u8],
 ) -> Result<Agreed<A, L>, Refused<Rest<A, L>>>
-    ensures { Decides (semantics A.Reading.Value A.State.Value Command-as-Value A.Application L.Layer) cluster entries.now claims.now words.now
+    ensures { Decides (semantics A.Reading.Value A.State.Value A.Command.Value A.Application L.Layer) cluster entries.now claims.now words.now
         (lent state.old own.old agreed.old run.old accept.old yes.old heard.old candidates.old chosen.old)
         (lent state.new own.new agreed.new run.new accept.new yes.new heard.new candidates.new chosen.new) result }
 {

@@ -5,10 +5,11 @@ use Rattle.quorum.specs.Counting.{bit}
 use Rattle.values.specs.Entries.{entry_at}
 use Rattle.values.specs.declared.Entry.{Entry}
 use Rattle.values.specs.declared.Entry.TheVariants.{Present, Missing}
-use Rattle.protocol.specs.Tables.{Kept, ByBit, WrittenAt, Written}
-use Rattle.protocol.specs.Model.{cell, heard_from, accepts}
-use Rattle.cluster.specs.Writing.{faulty_at, deaf_at, Hears, heard_row, Accepts}
-use Rattle.protocol.proofs.Sweep.{placed}
+use Rattle.protocol.specs.Setup.{Config}
+use Rattle.protocol.specs.Tables.{Kept, ByBit}
+use Rattle.protocol.specs.Model.{accepts}
+use Rattle.cluster.specs.Writing.{WrittenAt, Written, faulty_at, deaf_at, cell, heard_from, Hears, heard_row, accepts_own, Accepts}
+use Rattle.cluster.proofs.Sweep.{placed}
 use Rattle.cluster.proofs.Stepping.{within}
 
 -- a cell of the table
@@ -35,12 +36,19 @@ heard_placed n sensors marks own claims before after w i j k hi hj hk =
     placed (λ v. v ≡ heard_from n sensors marks own claims i j k) (entry_at after p ≡ heard_from n sensors marks own claims i j k) before after p (bit marks i) (λ _ h. h Missing)
     (subst D q (subst B sender (subst A hearer (w p (cell_within n sensors i j k hi hj hk)))))
 
-pub accept_placed : {R : Type 0} (alike : R → R → Bool) (n f sensors marks : ℕ) (own heard : List (Entry R)) (before after : List Bool)
-    → Written (n * sensors) (faulty_at marks sensors) (Accepts alike n f sensors own heard) before after
-    → (i k : ℕ) → i < n → k < sensors → ByBit (bit marks i) (Kept before after (i * sensors + k)) (get_or after (i * sensors + k) false ≡ accepts alike n f (entry_at own (i * sensors + k)) (λ j. entry_at heard (cell n sensors i j k)))
-accept_placed alike n f sensors marks own heard before after w i k hi hk =
-    let p : ℕ = i * sensors + k in
-    let A : ℕ → Type 0 = λ x. WrittenAt (bit marks x) (λ v. v ≡ accepts alike n f (entry_at own p) (heard_row n sensors heard x (p % sensors))) before after p in
-    let B : ℕ → Type 0 = λ x. WrittenAt (bit marks i) (λ v. v ≡ accepts alike n f (entry_at own p) (heard_row n sensors heard i x)) before after p in
-    placed (λ v. v ≡ accepts alike n f (entry_at own p) (heard_row n sensors heard i k)) (get_or after p false ≡ accepts alike n f (entry_at own p) (heard_row n sensors heard i k)) before after p (bit marks i)
-    (λ _ h. h false) (subst B (mod-mul-add i sensors k hk) (subst A (div-mul-add i sensors k hk) (w p (within n sensors i k hi hk))))
+module _ {R S C : Type 0} (g : Config R S C) where
+  open g use {n, f, sensors, marks, alike_r}
+
+  accepts_own_is : (e : Entry R) (heard : ℕ → Entry R) → accepts_own alike_r n f e heard ≡ accepts g e heard
+  accepts_own_is Missing heard = refl
+  accepts_own_is (Present x) heard = refl
+
+  pub accept_placed : (own heard : List (Entry R)) (before after : List Bool) → Written (n * sensors) (faulty_at marks sensors) (Accepts alike_r n f sensors own heard) before after
+      → (i k : ℕ) → i < n → k < sensors → ByBit (bit marks i) (Kept before after (i * sensors + k)) (get_or after (i * sensors + k) false ≡ accepts g (entry_at own (i * sensors + k)) (λ j. entry_at heard (cell n sensors i j k)))
+  accept_placed own heard before after w i k hi hk =
+      let p : ℕ = i * sensors + k in
+      let A : ℕ → Type 0 = λ x. WrittenAt (bit marks x) (λ v. v ≡ accepts_own alike_r n f (entry_at own p) (heard_row n sensors heard x (p % sensors))) before after p in
+      let B : ℕ → Type 0 = λ x. WrittenAt (bit marks i) (λ v. v ≡ accepts_own alike_r n f (entry_at own p) (heard_row n sensors heard i x)) before after p in
+      placed (λ v. v ≡ accepts_own alike_r n f (entry_at own p) (heard_row n sensors heard i k)) (get_or after p false ≡ accepts g (entry_at own p) (heard_row n sensors heard i k)) before after p (bit marks i)
+      (λ _ h. h false ∙ accepts_own_is (entry_at own p) (heard_row n sensors heard i k))
+      (subst B (mod-mul-add i sensors k hk) (subst A (div-mul-add i sensors k hk) (w p (within n sensors i k hi hk))))

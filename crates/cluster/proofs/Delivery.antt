@@ -6,16 +6,15 @@ use Rattle.quorum.specs.Counting.{bit}
 use Rattle.values.specs.Entries.{present, entry_at, SameEntry}
 use Rattle.values.specs.declared.Entry.{Entry}
 use Rattle.values.specs.declared.Entry.TheVariants.{Missing}
-use Rattle.protocol.specs.Tables.{Kept, ByBit, MaskOf, WrittenAt, Written}
-use Rattle.protocol.specs.Model.{words_of, agrees}
-use Rattle.cluster.specs.Writing.{faulty_at, heard_row, Delivers, bit_of, gets, got, Gets, AgreesOn, Could}
-use Rattle.protocol.proofs.Sweep.{placed}
+use Rattle.protocol.specs.Tables.{Kept, ByBit, MaskOf}
+use Rattle.cluster.specs.Writing.{WrittenAt, Written, faulty_at, heard_row, Delivers, bit_of, instance_words, gets, got, Gets, agrees_on, AgreesOn, Could}
+use Rattle.cluster.proofs.Sweep.{placed}
 use Rattle.cluster.proofs.Stepping.{within}
 
 -- an instance by its number, and by its sensor and sender
 pub got_of : (delivered : Delivers) (size n sensors marks : ℕ) (accept : List Bool) (words : List ℕ) (i k j : ℕ) → j < n → gets delivered size n sensors marks accept words (k * n + j) i ≡ got delivered size n sensors marks accept words i k j
 got_of delivered size n sensors marks accept words i k j h =
-    ap₂ (λ (a b : ℕ). delivered a (bit_of sensors marks accept a b) (words_of size words (k * n + j)) i) (mod-mul-add k n j h) (div-mul-add k n j h)
+    ap₂ (λ (a b : ℕ). delivered a (bit_of sensors marks accept a b) (instance_words size words (k * n + j)) i) (mod-mul-add k n j h) (div-mul-add k n j h)
 
 module _ (delivered : Delivers) (size n sensors marks : ℕ) (accept : List Bool) (words before after : List ℕ) (w : Written (n * sensors) (faulty_at marks sensors) (Gets delivered size n sensors marks accept words) before after) where
   pub yes_placed : (i k : ℕ) → i < n → k < sensors → ByBit (bit marks i) (Kept before after (i * sensors + k)) (MaskOf n (got delivered size n sensors marks accept words i k) (get_or after (i * sensors + k) 0))
@@ -35,10 +34,10 @@ module _ (delivered : Delivers) (size n sensors marks : ℕ) (accept : List Bool
 
 pub agreed_placed : {R M : Type 0} (means : R → M) (alike : R → R → Bool) (n f sensors marks : ℕ) (own : List (Entry R)) (accept : List Bool) (masks : List ℕ) (heard before after : List (Entry R))
     → Written (n * sensors) (faulty_at marks sensors) (AgreesOn means alike n f sensors own accept masks heard) before after → (i k : ℕ) → i < n → k < sensors
-    → ByBit (bit marks i) (Kept before after (i * sensors + k)) (SameEntry means (entry_at after (i * sensors + k)) (agrees alike n f (bit (get_or masks (i * sensors + k) 0)) (get_or accept (i * sensors + k) false) (entry_at own (i * sensors + k)) (heard_row n sensors heard i k)))
+    → ByBit (bit marks i) (Kept before after (i * sensors + k)) (SameEntry means (entry_at after (i * sensors + k)) (agrees_on alike n f (bit (get_or masks (i * sensors + k) 0)) (get_or accept (i * sensors + k) false) (entry_at own (i * sensors + k)) (heard_row n sensors heard i k)))
 agreed_placed {R} means alike n f sensors marks own accept masks heard before after w i k hi hk =
     let p : ℕ = i * sensors + k in
-    let to : ℕ → ℕ → Entry R = λ x y. agrees alike n f (bit (get_or masks p 0)) (get_or accept p false) (entry_at own p) (heard_row n sensors heard x y) in
+    let to : ℕ → ℕ → Entry R = λ x y. agrees_on alike n f (bit (get_or masks p 0)) (get_or accept p false) (entry_at own p) (heard_row n sensors heard x y) in
     let A : ℕ → Type 0 = λ x. WrittenAt (bit marks x) (λ v. SameEntry means v (to x (p % sensors))) before after p in
     let B : ℕ → Type 0 = λ x. WrittenAt (bit marks i) (λ v. SameEntry means v (to i x)) before after p in
     placed (λ v. SameEntry means v (to i k)) (SameEntry means (entry_at after p) (to i k)) before after p (bit marks i) (λ _ h. h Missing)

@@ -1,4 +1,6 @@
-pub mod Carrying
+pub mod Holding
+pub mod Fitting
+pub mod Sweep
 pub mod Stepping
 pub mod Accepting
 pub mod Masks

@@ -1,2 +1,5 @@
+pub mod Numbers
+pub mod Refusals
+pub mod Questions
 pub mod Writing
 pub mod Answers

@@ -1,13 +1,20 @@
 -- Tables that are written place by place.
-use Rattle.std.specs.Prelude.{◌≡◌, ℕ, ◌+◌, ◌-◌, ◌*◌, ◌/◌, ◌%◌, ◌<◌, ◌≤◌, Bool, false, cond, not, ◌&&◌, ◌||◌, List, slice_index, slice_index_or}
+use Rattle.std.specs.Prelude.{◌≡◌, ℕ, ◌+◌, ◌-◌, ◌*◌, ◌/◌, ◌%◌, ◌<◌, ◌≤◌, Bool, false, cond, not, ◌&&◌, ◌||◌, List, take, drop, nat_le, slice_index, slice_index_or}
 use Rattle.quorum.specs.Counting.{bit, count}
 use Rattle.values.specs.Entries.{present, entry_at, SameEntry, matches}
 use Rattle.values.specs.Majority.{majority}
 use Rattle.values.specs.declared.Entry.{Entry}
 use Rattle.values.specs.declared.Entry.TheVariants.{Present, Missing}
 use Rattle.protocol.specs.Setup.{Rule}
-use Rattle.protocol.specs.Tables.{table, value_at, MaskOf}
-use Rattle.protocol.specs.Model.{cell, heard_from, accepts, words_of, agrees}
+use Rattle.protocol.specs.Tables.{table, value_at, Kept, ByBit, MaskOf}
+
+-- a place that is skipped keeps its very value, and any other holds what is wanted of it
+abbrev pub WrittenAt : {X : Type 0} → Bool → (X → Type 0) → List X → List X → ℕ → Type 0
+WrittenAt {X} skip wants before after p = ByBit skip (Kept before after p) ((d : X) → wants (slice_index_or after p d))
+
+-- so it is at every place below the bound
+abbrev pub Written : {X : Type 0} → ℕ → (ℕ → Bool) → (ℕ → X → Type 0) → List X → List X → Type 0
+Written bound skip wants before after = (p : ℕ) → p < bound → WrittenAt (skip p) (wants p) before after p
 
 -- the place is a faulty replica's, where each has w places
 abbrev pub faulty_at : ℕ → ℕ → ℕ → Bool
@@ -21,14 +28,17 @@ Owns entries p v = v ≡ entry_at entries p
 abbrev pub idle_at : {R : Type 0} → ℕ → ℕ → List (Entry R) → ℕ → Bool
 idle_at marks sensors entries p = faulty_at marks sensors p || not (present (entry_at entries p))
 
--- a state stepped by an entry, missing where that is
-abbrev pub stepped_by : {R S : Type 0} → (S → R → S) → S → Entry R → Entry S
-stepped_by step s Missing = Missing
-stepped_by step s (Present x) = Present (step s x)
-
 -- run: the replica's state stepped by the entry, by meaning
 abbrev pub Runs : {R S M : Type 0} → (S → M) → (S → R → S) → ℕ → List S → List (Entry R) → ℕ → S → Type 0
 Runs {R} {S} means step sensors state entries p v = (x : R) (s : S) → entry_at entries p ≡ Present x → value_at state (p / sensors) ≡ Present s → means v ≡ means (step s x)
+
+-- where replica i keeps what it heard from j about sensor k, and j's claims what it tells i
+abbrev pub cell : ℕ → ℕ → ℕ → ℕ → ℕ → ℕ
+cell n sensors i j k = (i * n + j) * sensors + k
+
+-- what i hears from j about k: a sound replica's own, a faulty one's claim
+abbrev pub heard_from : {R : Type 0} → ℕ → ℕ → ℕ → List (Entry R) → List (Entry R) → ℕ → ℕ → ℕ → Entry R
+heard_from n sensors marks own claims i j k = cond (bit marks j) (entry_at claims (cell n sensors j i k)) (entry_at own (j * sensors + k))
 
 -- heard: skipped where the hearer is faulty
 abbrev pub deaf_at : ℕ → ℕ → ℕ → ℕ → Bool
@@ -42,9 +52,14 @@ Hears n sensors marks own claims p v = v ≡ heard_from n sensors marks own clai
 abbrev pub heard_row : {R : Type 0} → ℕ → ℕ → List (Entry R) → ℕ → ℕ → ℕ → Entry R
 heard_row n sensors heard i k j = entry_at heard (cell n sensors i j k)
 
+-- own is accepted: it is present, and at least n - f of the entries heard are the same
+abbrev pub accepts_own : {R : Type 0} → (R → R → Bool) → ℕ → ℕ → Entry R → (ℕ → Entry R) → Bool
+accepts_own alike n f Missing heard = false
+accepts_own alike n f (Present x) heard = nat_le (n - f) (matches alike x n heard)
+
 -- accept: whether own is accepted
 abbrev pub Accepts : {R : Type 0} → (R → R → Bool) → ℕ → ℕ → ℕ → List (Entry R) → List (Entry R) → ℕ → Bool → Type 0
-Accepts alike n f sensors own heard p v = v ≡ accepts alike n f (entry_at own p) (heard_row n sensors heard (p / sensors) (p % sensors))
+Accepts alike n f sensors own heard p v = v ≡ accepts_own alike n f (entry_at own p) (heard_row n sensors heard (p / sensors) (p % sensors))
 
 -- a row of what was heard lies within the table
 abbrev pub RowFits : ℕ → ℕ → ℕ → ℕ → ℕ → Type 0
@@ -58,22 +73,34 @@ Delivers = ℕ → Bool → List ℕ → ℕ → Bool
 abbrev pub bit_of : ℕ → ℕ → List Bool → ℕ → ℕ → Bool
 bit_of sensors marks accept j k = not (bit marks j) && slice_index_or accept (j * sensors + k) false
 
+-- the words of instance m, fewer where the bytes end
+abbrev pub instance_words : ℕ → List ℕ → ℕ → List ℕ
+instance_words size words m = take size (drop (m * size) words)
+
 -- what i gets in instance m, whose sender is m % n and whose sensor is m / n
 abbrev pub gets : Delivers → ℕ → ℕ → ℕ → ℕ → List Bool → List ℕ → ℕ → ℕ → Bool
-gets delivered size n sensors marks accept words m i = delivered (m % n) (bit_of sensors marks accept (m % n) (m / n)) (words_of size words m) i
+gets delivered size n sensors marks accept words m i = delivered (m % n) (bit_of sensors marks accept (m % n) (m / n)) (instance_words size words m) i
 
 -- what i gets of j's bit of sensor k
 abbrev pub got : Delivers → ℕ → ℕ → ℕ → ℕ → List Bool → List ℕ → ℕ → ℕ → ℕ → Bool
-got delivered size n sensors marks accept words i k j = delivered j (bit_of sensors marks accept j k) (words_of size words (k * n + j)) i
+got delivered size n sensors marks accept words i k j = delivered j (bit_of sensors marks accept j k) (instance_words size words (k * n + j)) i
 
 -- yes: the mask of what is delivered
 abbrev pub Gets : Delivers → ℕ → ℕ → ℕ → ℕ → List Bool → List ℕ → ℕ → ℕ → Type 0
 Gets delivered size n sensors marks accept words p v = MaskOf n (got delivered size n sensors marks accept words (p / sensors) (p % sensors)) v
 
--- agreed: what comes of the mask, by meaning
+-- the entries of the senders whose bit is set
+abbrev pub heeded : {R : Type 0} → (ℕ → Bool) → (ℕ → Entry R) → ℕ → Entry R
+heeded bits heard j = cond (bits j) (heard j) Missing
+
+-- with at least n - f bits set, own where accepted, else the majority of what the others of the mask said
+abbrev pub agrees_on : {R : Type 0} → (R → R → Bool) → ℕ → ℕ → (ℕ → Bool) → Bool → Entry R → (ℕ → Entry R) → Entry R
+agrees_on alike n f bits accepted own heard = cond (nat_le (n - f) (count n bits)) (cond accepted own (majority alike n (heeded bits heard))) Missing
+
+-- agreed: so from the tables, by meaning
 abbrev pub AgreesOn : {R M : Type 0} → (R → M) → (R → R → Bool) → ℕ → ℕ → ℕ → List (Entry R) → List Bool → List ℕ → List (Entry R) → ℕ → Entry R → Type 0
 AgreesOn means alike n f sensors own accept masks heard p v =
-    SameEntry means v (agrees alike n f (bit (slice_index masks p)) (slice_index_or accept p false) (entry_at own p) (heard_row n sensors heard (p / sensors) (p % sensors)))
+    SameEntry means v (agrees_on alike n f (bit (slice_index masks p)) (slice_index_or accept p false) (entry_at own p) (heard_row n sensors heard (p / sensors) (p % sensors)))
 
 -- candidates: the mask of the sensors that are agreed on
 abbrev pub Could : {R : Type 0} → ℕ → List (Entry R) → ℕ → ℕ → Type 0

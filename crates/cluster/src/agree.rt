@@ -3,21 +3,18 @@ ghost use Rattle.std.specs.Prelude.{◌≡◌, ℕ, ◌+◌, ◌-◌, ◌*◌, �
 ghost use Rattle.quorum.specs.Counting.{bit};
 ghost use Rattle.values.specs.Entries.{present, SameEntry, entry_at};
 ghost use Rattle.protocol.specs.Clusters.{semantics};
-ghost use Rattle.protocol.specs.Tables.{MaskOf, Written};
-ghost use Rattle.protocol.specs.Setup.{lent};
-ghost use Rattle.cluster.specs.Answers.{AgreeAnswers};
-ghost use Rattle.protocol.specs.Model.{agrees};
-ghost use Rattle.cluster.specs.Writing.{faulty_at, heard_row, RowFits, AgreesOn, Could};
+ghost use Rattle.protocol.specs.Tables.{MaskOf};
+ghost use Rattle.cluster.specs.Answers.{lent, AgreeAnswers};
+ghost use Rattle.cluster.specs.Writing.{Written, faulty_at, heard_row, RowFits, agrees_on, AgreesOn, Could};
 
 use crate::deliver::write_yes;
 use crate::moves::to_agreed;
-use crate::places::{entry_at, is_sound, place};
+use crate::places::{entry_at, place};
+use crate::questions::{stage_refusal, tables_fit};
 use crate::row::heard_majority;
 use crate::{Agreed, Filtered, Refused};
 use layers::layer::Layer;
-use protocol::never_part;
-use questions::asking::stage_refusal;
-use quorum::set_bits;
+use quorum::{is_set, set_bits};
 use values::{Application, Entry, Value};
 
 // What replica i agrees on of sensor k, from its mask.
@@ -33,7 +30,7 @@ fn agree_on<R: Value>(
     heard: &[Entry<R>],
 ) -> Entry<R>
     requires { (f ≤ n) × ((mask < 2 ^ n) × (RowFits n sensors i k (length heard.now))) }
-    ensures { SameEntry R.Value.means result (agrees R.Value.alike n f (bit mask) accepted own (heard_row n sensors heard.now i k)) }
+    ensures { SameEntry R.Value.means result (agrees_on R.Value.alike n f (bit mask) accepted own (heard_row n sensors heard.now i k)) }
 {
     if set_bits(mask) < n - f {
         return Entry::Missing;
@@ -64,7 +61,7 @@ fn write_agreed<R: Value>(
 {
     for p in 0..agreed.len() {
         let i = p / sensors;
-        if is_sound(marks, i) {
+        if !is_set(marks, i) {
             agreed[p] = agree_on(
                 n,
                 f,
@@ -106,7 +103,7 @@ fn write_candidates<R: Value>(
     ensures { Written n (bit marks) (Could sensors agreed.now) candidates.old candidates.new }
 {
     for i in 0..candidates.len() {
-        if is_sound(marks, i) {
+        if !is_set(marks, i) {
             candidates[i] = mask_of(n, sensors, i, agreed);
         }
     }
@@ -127,13 +124,14 @@ impl<A: Application, L: Layer> Filtered<A, L> {
         candidates: &mut [u8],
         chosen: &[u8],
     ) -> Result<Agreed<A, L>, Refused<Filtered<A, L>>>
-        ensures { AgreeAnswers (semantics A.Reading.Value A.State.Value Command-as-Value A.Application L.Layer) self words.now
+        ensures { AgreeAnswers (semantics A.Reading.Value A.State.Value A.Command.Value A.Application L.Layer) self words.now
             (lent state.now own.now agreed.old run.now accept.now yes.old heard.now candidates.old chosen.now)
             (lent state.now own.now agreed.new run.now accept.now yes.new heard.now candidates.new chosen.now)
             result }
     {
-        never_part::<A, L>();
-        let fit = self.parameters.tables_fit(
+        let fit = tables_fit(
+            self.n,
+            self.sensors,
             state.len(),
             own.len(),
             agreed.len(),
@@ -152,32 +150,26 @@ impl<A: Application, L: Layer> Filtered<A, L> {
         }
         write_yes(
             &self.layer,
-            self.parameters.n,
-            self.parameters.f,
-            self.parameters.sensors,
-            self.parameters.marks,
+            self.n,
+            self.f,
+            self.sensors,
+            self.marks,
             accept,
             words,
             yes,
         );
         write_agreed(
-            self.parameters.n,
-            self.parameters.f,
-            self.parameters.sensors,
-            self.parameters.marks,
+            self.n,
+            self.f,
+            self.sensors,
+            self.marks,
             own,
             accept,
             yes,
             heard,
             agreed,
         );
-        write_candidates(
-            self.parameters.n,
-            self.parameters.sensors,
-            self.parameters.marks,
-            agreed,
-            candidates,
-        );
+        write_candidates(self.n, self.sensors, self.marks, agreed, candidates);
         Ok(to_agreed(self))
     }
 }

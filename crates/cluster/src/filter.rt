@@ -1,19 +1,15 @@
 // Filter: what each sound replica hears from each, and which of its own entries it accepts.
 ghost use Rattle.std.specs.Prelude.{◌≡◌, ◌+◌, ◌-◌, ◌*◌, ◌/◌, ◌%◌, ◌<◌, ◌≤◌, length};
 ghost use Rattle.protocol.specs.Clusters.{semantics};
-ghost use Rattle.protocol.specs.Setup.{lent};
-ghost use Rattle.cluster.specs.Answers.{FilterAnswers};
-ghost use Rattle.protocol.specs.Tables.{Written};
-ghost use Rattle.protocol.specs.Model.{heard_from, accepts};
-ghost use Rattle.cluster.specs.Writing.{faulty_at, deaf_at, Hears, heard_row, RowFits, Accepts};
+ghost use Rattle.cluster.specs.Answers.{lent, FilterAnswers};
+ghost use Rattle.cluster.specs.Writing.{Written, faulty_at, deaf_at, heard_from, Hears, heard_row, RowFits, accepts_own, Accepts};
 
 use crate::moves::to_filtered;
-use crate::places::{entry_at, heard_place, is_sound, place};
+use crate::places::{entry_at, heard_place, place};
+use crate::questions::{stage_refusal, tables_fit};
 use crate::row::heard_matches;
 use crate::{Filtered, Refused, TakenIn};
 use layers::layer::Layer;
-use protocol::never_part;
-use questions::asking::stage_refusal;
 use quorum::is_set;
 use values::{Application, Entry, Value};
 
@@ -55,7 +51,7 @@ fn write_heard<R: Value>(
     for p in 0..heard.len() {
         let row = p / sensors;
         let i = row / n;
-        if is_sound(marks, i) {
+        if !is_set(marks, i) {
             heard[p] = hear(n, sensors, marks, i, row % n, p % sensors, own, claims);
         }
     }
@@ -72,7 +68,7 @@ fn accepts<R: Value>(
     heard: &[Entry<R>],
 ) -> bool
     requires { (f ≤ n) × (RowFits n sensors i k (length heard.now)) }
-    ensures { result ≡ accepts R.Value.alike n f e (heard_row n sensors heard.now i k) }
+    ensures { result ≡ accepts_own R.Value.alike n f e (heard_row n sensors heard.now i k) }
 {
     match e {
         Entry::Present(x) => heard_matches(n, sensors, i, k, heard, &x) >= n - f,
@@ -96,7 +92,7 @@ fn write_accept<R: Value>(
 {
     for p in 0..accept.len() {
         let i = p / sensors;
-        if is_sound(marks, i) {
+        if !is_set(marks, i) {
             accept[p] = accepts(n, f, sensors, i, p % sensors, entry_at(own, p), heard);
         }
     }
@@ -117,13 +113,14 @@ impl<A: Application, L: Layer> TakenIn<A, L> {
         candidates: &[u8],
         chosen: &[u8],
     ) -> Result<Filtered<A, L>, Refused<TakenIn<A, L>>>
-        ensures { FilterAnswers (semantics A.Reading.Value A.State.Value Command-as-Value A.Application L.Layer) self claims.now
+        ensures { FilterAnswers (semantics A.Reading.Value A.State.Value A.Command.Value A.Application L.Layer) self claims.now
             (lent state.now own.now agreed.now run.now accept.old yes.now heard.old candidates.now chosen.now)
             (lent state.now own.now agreed.now run.now accept.new yes.now heard.new candidates.now chosen.now)
             result }
     {
-        never_part::<A, L>();
-        let fit = self.parameters.tables_fit(
+        let fit = tables_fit(
+            self.n,
+            self.sensors,
             state.len(),
             own.len(),
             agreed.len(),
@@ -134,32 +131,14 @@ impl<A: Application, L: Layer> TakenIn<A, L> {
             candidates.len(),
             chosen.len(),
         );
-        if let Some(refusal) = stage_refusal(
-            fit,
-            claims.len() == self.parameters.n * self.parameters.n * self.parameters.sensors,
-        ) {
+        if let Some(refusal) = stage_refusal(fit, claims.len() == self.n * self.n * self.sensors) {
             return Err(Refused {
                 cluster: self,
                 refusal,
             });
         }
-        write_heard(
-            self.parameters.n,
-            self.parameters.sensors,
-            self.parameters.marks,
-            own,
-            claims,
-            heard,
-        );
-        write_accept(
-            self.parameters.n,
-            self.parameters.f,
-            self.parameters.sensors,
-            self.parameters.marks,
-            own,
-            heard,
-            accept,
-        );
+        write_heard(self.n, self.sensors, self.marks, own, claims, heard);
+        write_accept(self.n, self.f, self.sensors, self.marks, own, heard, accept);
         Ok(to_filtered(self))
     }
 }

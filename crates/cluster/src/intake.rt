@@ -1,18 +1,14 @@
 // Intake: each sound replica takes its own entries in, and runs the application on them.
 ghost use Rattle.std.specs.Prelude.{◌≡◌, ◌+◌, ◌*◌, ◌/◌, ◌<◌, ◌≤◌, length};
 ghost use Rattle.protocol.specs.Clusters.{semantics};
-ghost use Rattle.protocol.specs.Setup.{lent};
-ghost use Rattle.cluster.specs.Answers.{IntakeAnswers};
-ghost use Rattle.protocol.specs.Tables.{Written};
-ghost use Rattle.cluster.specs.Writing.{faulty_at, idle_at, Owns, Runs, stepped_by};
-ghost use Rattle.values.specs.Entries.{SameEntry};
+ghost use Rattle.cluster.specs.Answers.{lent, IntakeAnswers};
+ghost use Rattle.cluster.specs.Writing.{Written, faulty_at, idle_at, Owns, Runs};
 
 use crate::moves::to_taken_in;
-use crate::places::is_sound;
+use crate::questions::{stage_refusal, tables_fit};
 use crate::{Refused, Rest, TakenIn};
 use layers::layer::Layer;
-use protocol::never_part;
-use questions::asking::stage_refusal;
+use quorum::is_set;
 use values::{Application, Entry, Value};
 
 // Writes own at the places of the sound replicas.
@@ -21,19 +17,9 @@ fn write_own<R: Value>(sensors: usize, marks: u16, entries: &[Entry<R>], own: &m
     ensures { Written (length own.old) (faulty_at marks sensors) (Owns entries.now) own.old own.new }
 {
     for p in 0..own.len() {
-        if is_sound(marks, p / sensors) {
+        if !is_set(marks, p / sensors) {
             own[p] = entries[p];
         }
-    }
-}
-
-// What the application makes of a state by an entry, missing where the entry is.
-fn run_of<A: Application>(app: &A, state: &A::State, entry: &Entry<A::Reading>) -> Entry<A::State>
-    ensures { SameEntry A.State.Value.means result (stepped_by (A.Application.stepped app.now) state.now entry.now) }
-{
-    match entry {
-        Entry::Present(x) => Entry::Present(app.step(state, x)),
-        Entry::Missing => Entry::Missing,
     }
 }
 
@@ -51,9 +37,10 @@ fn write_run<A: Application>(
 {
     for p in 0..run.len() {
         let i = p / sensors;
-        if is_sound(marks, i) {
-            if let Entry::Present(next) = run_of(app, &state[i], &entries[p]) {
-                run[p] = next;
+        if !is_set(marks, i) {
+            let e = entries[p];
+            if let Entry::Present(x) = e {
+                run[p] = app.step(&state[i], &x);
             }
         }
     }
@@ -74,13 +61,14 @@ impl<A: Application, L: Layer> Rest<A, L> {
         candidates: &[u8],
         chosen: &[u8],
     ) -> Result<TakenIn<A, L>, Refused<Rest<A, L>>>
-        ensures { IntakeAnswers (semantics A.Reading.Value A.State.Value Command-as-Value A.Application L.Layer) self entries.now
+        ensures { IntakeAnswers (semantics A.Reading.Value A.State.Value A.Command.Value A.Application L.Layer) self entries.now
             (lent state.now own.old agreed.now run.old accept.now yes.now heard.now candidates.now chosen.now)
             (lent state.now own.new agreed.now run.new accept.now yes.now heard.now candidates.now chosen.now)
             result }
     {
-        never_part::<A, L>();
-        let fit = self.parameters.tables_fit(
+        let fit = tables_fit(
+            self.n,
+            self.sensors,
             state.len(),
             own.len(),
             agreed.len(),
@@ -91,24 +79,14 @@ impl<A: Application, L: Layer> Rest<A, L> {
             candidates.len(),
             chosen.len(),
         );
-        if let Some(refusal) = stage_refusal(
-            fit,
-            entries.len() == self.parameters.n * self.parameters.sensors,
-        ) {
+        if let Some(refusal) = stage_refusal(fit, entries.len() == self.n * self.sensors) {
             return Err(Refused {
                 cluster: self,
                 refusal,
             });
         }
-        write_own(self.parameters.sensors, self.parameters.marks, entries, own);
-        write_run(
-            &self.app,
-            self.parameters.sensors,
-            self.parameters.marks,
-            state,
-            entries,
-            run,
-        );
+        write_own(self.sensors, self.marks, entries, own);
+        write_run(&self.app, self.sensors, self.marks, state, entries, run);
         Ok(to_taken_in(self))
     }
 }

@@ -1,13 +1,11 @@
 // Making: the questions, and the starting state in all places.
 ghost use Rattle.std.specs.Prelude.{◌≡◌, ℕ, ◌*◌, ◌<◌, length, slice_index_or};
 ghost use Rattle.protocol.specs.Clusters.{semantics};
-ghost use Rattle.protocol.specs.Setup.{lent};
-ghost use Rattle.cluster.specs.Answers.{MakeAnswers};
+ghost use Rattle.cluster.specs.Answers.{lent, MakeAnswers};
 
-use crate::{Rest, Unmade};
+use crate::questions::{number_refusal, tables_fit};
+use crate::{Refusal, Rest, Unmade};
 use layers::layer::Layer;
-use protocol::never_part;
-use questions::{Parameters, Refusal};
 use values::{Application, Entry, Value};
 
 // Writes the state to every place.
@@ -39,23 +37,21 @@ impl<A: Application, L: Layer> Rest<A, L> {
         candidates: &[u8],
         chosen: &[u8],
     ) -> Result<Rest<A, L>, Unmade<A, L>>
-        ensures { MakeAnswers (semantics A.Reading.Value A.State.Value Command-as-Value A.Application L.Layer) record { n = n; f = f; sensors = sensors; marks = marks; app = app; layer = layer } start
+        ensures { MakeAnswers (semantics A.Reading.Value A.State.Value A.Command.Value A.Application L.Layer) record { n = n; f = f; sensors = sensors; marks = marks; app = app; layer = layer } start
             (lent state.old own.now agreed.now run.now accept.now yes.now heard.now candidates.now chosen.now)
             (lent state.new own.now agreed.now run.now accept.now yes.now heard.now candidates.now chosen.now)
             result }
     {
-        never_part::<A, L>();
-        let parameters = match Parameters::new(n, f, sensors, marks) {
-            Ok(parameters) => parameters,
-            Err(refusal) => {
-                return Err(Unmade {
-                    app,
-                    layer,
-                    refusal,
-                });
-            }
-        };
-        let fit = parameters.tables_fit(
+        if let Some(refusal) = number_refusal(n, f, sensors, marks) {
+            return Err(Unmade {
+                app,
+                layer,
+                refusal,
+            });
+        }
+        if !tables_fit(
+            n,
+            sensors,
             state.len(),
             own.len(),
             agreed.len(),
@@ -65,8 +61,7 @@ impl<A: Application, L: Layer> Rest<A, L> {
             heard.len(),
             candidates.len(),
             chosen.len(),
-        );
-        if !fit {
+        ) {
             return Err(Unmade {
                 app,
                 layer,
@@ -75,7 +70,10 @@ impl<A: Application, L: Layer> Rest<A, L> {
         }
         write_start(start, state);
         Ok(Rest {
-            parameters,
+            n,
+            f,
+            sensors,
+            marks,
             app,
             layer,
         })

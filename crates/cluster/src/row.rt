@@ -4,8 +4,7 @@ ghost use Rattle.values.specs.Entries.{matches as matchesIn};
 ghost use Rattle.quorum.specs.Counting.{bit};
 ghost use Rattle.values.specs.Entries.{SameEntry};
 ghost use Rattle.values.specs.Majority.{majority as majority_of};
-ghost use Rattle.protocol.specs.Model.{heeded};
-ghost use Rattle.cluster.specs.Writing.{RowFits, heard_row};
+ghost use Rattle.cluster.specs.Writing.{RowFits, heard_row, heeded};
 
 use crate::places::{entry_at, heard_place};
 use quorum::is_set;
@@ -14,7 +13,7 @@ use values::{Entry, Value};
 
 // What replica i heard about sensor k, by the sender.
 #[derive(Drop)]
-struct Row<'a, T> {
+pub struct Row<'a, T> {
     heard: &'a [Entry<T>],
     n: usize,
     sensors: usize,
@@ -41,7 +40,7 @@ impl<'a, T: Value> Entries for Row<'a, T> {
 }
 
 // How many replicas told i the same about sensor k as x.
-pub(crate) fn heard_matches<T: Value>(
+pub fn heard_matches<T: Value>(
     n: usize,
     sensors: usize,
     i: usize,
@@ -64,7 +63,7 @@ pub(crate) fn heard_matches<T: Value>(
 
 // The same, from the senders of a mask only.
 #[derive(Drop)]
-struct Heeded<'a, T> {
+pub struct Heeded<'a, T> {
     row: Row<'a, T>,
     mask: u16,
 }
@@ -90,7 +89,7 @@ impl<'a, T: Value> Entries for Heeded<'a, T> {
 }
 
 // The majority of what replica i heard about sensor k from the senders of a mask.
-pub(crate) fn heard_majority<T: Value>(
+pub fn heard_majority<T: Value>(
     n: usize,
     sensors: usize,
     i: usize,

@@ -41,13 +41,13 @@ module _ {R S C : Type 0} {g : Config R S C} (ok : Admitted g) (p : Model R S) w
   pub yes_one : (i k j : ℕ) → i < n → Sound marks i → j < n → yes_bit g p i k j ≡ yes_bit g p (lowest_sound g) k j
   unfolding yes_bit
   yes_one i k j l s m =
-      ok.laws.agreement j (sound g j && accept g p j k) (words_of g.size p.words (k * n + j)) m i (lowest_sound g) l (low_sound ok).0 s (low_sound ok).1
+      ok.laws.agreement j (sound g j && accept g p j k) (words_of g p.words (k * n + j)) m i (lowest_sound g) l (low_sound ok).0 s (low_sound ok).1
 
   -- a sound sender's bit is its accept
   pub yes_accept : (i k j : ℕ) → i < n → Sound marks i → j < n → Sound marks j → yes_bit g p i k j ≡ accept g p j k
   unfolding yes_bit
   yes_accept i k j l s m r =
-      ok.laws.validity j (sound g j && accept g p j k) (words_of g.size p.words (k * n + j)) m r i l s
+      ok.laws.validity j (sound g j && accept g p j k) (words_of g p.words (k * n + j)) m r i l s
       ∙ ap (λ (b : Bool). b && accept g p j k) (is_yes (sound g j) (no_yes (bit marks j) r))
 
   -- ---- candidates

@@ -45,12 +45,12 @@ module _ {R S C : Type 0} {g : Config R S C} (ok : Admitted g) where
       (j, w.1, yes_no (bit marks j) s.1, t.0, t.1)
 
   -- what is accepted is present, and a quorum has it
-  accepts_is : (e : Entry R) (h : ℕ → Entry R) → T (accepts alike_r n f e h) → (x : R) × (e ≡ Present x) × (n - f ≤ matches alike_r x n h)
+  accepts_is : (e : Entry R) (h : ℕ → Entry R) → T (accepts g e h) → (x : R) × (e ≡ Present x) × (n - f ≤ matches alike_r x n h)
   accepts_is Missing h t = absurd t
   accepts_is (Present x) h t = (x, refl, leb→le _ _ t)
 
   -- what all sound replicas say is accepted
-  pub backed : (e : Entry R) (h : ℕ → Entry R) (x : R) → SameEntry means_r e (Present x) → ((j : ℕ) → j < n → Sound marks j → SameEntry means_r (h j) (Present x)) → T (accepts alike_r n f e h)
+  pub backed : (e : Entry R) (h : ℕ → Entry R) (x : R) → SameEntry means_r e (Present x) → ((j : ℕ) → j < n → Sound marks j → SameEntry means_r (h j) (Present x)) → T (accepts g e h)
   backed Missing h x same all = absurd same
   backed (Present y) h x same all =
       le→leb _ _ (omega (

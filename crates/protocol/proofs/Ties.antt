@@ -12,8 +12,8 @@ use Rattle.values.proofs.Meanings.{same_trans, same_present}
 use Rattle.selections.specs.Choices.{Chooses}
 use Rattle.protocol.specs.Tables.{table, value_at, Stored, MaskOf}
 use Rattle.protocol.specs.Setup.{Config, sound, EachSound, Rule, Tables, Sizes, intake, filter, agree, select, Stage, rest, taken_in, filtered, agreed, chosen, Moment}
-use Rattle.protocol.specs.Model.{cell, accepts, words_of, Model, own, heard, accept, yes_bit, is_candidate, reading, readings, chosen_sensor, advance, order, is_stage}
-use Rattle.protocol.specs.Calls.{step_of, TakesIn, Filters, accepted, Agrees, Selects}
+use Rattle.protocol.specs.Model.{accepts, words_of, Model, own, heard, accept, yes_bit, is_candidate, reading, readings, chosen_sensor, advance, order, is_stage}
+use Rattle.protocol.specs.Calls.{step_of, TakesIn, heard_place, Filters, accepted, Agrees, Selects}
 use Rattle.protocol.specs.Consistency.{Holds}
 use Rattle.protocol.proofs.Places.{cond_under, and_under, no_yes, yes_no, clear_at, table_length, table_at, table_past}
 use Rattle.protocol.proofs.Quorums.{Admitted}
@@ -137,7 +137,7 @@ module _ {R S C : Type 0} {g : Config R S C} (ok : Admitted g) (p : Model R S) (
     };
   }
 
-  accepts_same : (e : Entry R) (h h' : ℕ → Entry R) → ((j : ℕ) → j < n → h j ≡ h' j) → accepts alike_r n f e h ≡ accepts alike_r n f e h'
+  accepts_same : (e : Entry R) (h h' : ℕ → Entry R) → ((j : ℕ) → j < n → h j ≡ h' j) → accepts g e h ≡ accepts g e h'
   accepts_same Missing h h' same = refl
   accepts_same (Present x) h h' same =
       ap (λ (v : ℕ). leb (n - f) v) (count_same n (λ j. carries alike_r x (h j)) (λ j. carries alike_r x (h' j)) (λ j l. ap (λ (e : Entry R). carries alike_r x e) (same j l)))
@@ -157,8 +157,8 @@ module _ {R S C : Type 0} {g : Config R S C} (ok : Admitted g) (p : Model R S) (
           heard = hears;
           accept = λ i k l s c.
               clear_at (bit marks i) _ _ s (d.accept i k l c)
-              ∙ ap (λ (e : Entry R). accepts alike_r n f e (λ j. entry_at m'.tables.heard (cell n sensors i j k))) (a.own i k l s c)
-              ∙ accepts_same (own g p i k) (λ j. entry_at m'.tables.heard (cell n sensors i j k)) (λ j. heard g p' i j k) (hears i k l s c);
+              ∙ ap (λ (e : Entry R). accepts g e (λ j. entry_at m'.tables.heard (heard_place g m m' i j k))) (a.own i k l s c)
+              ∙ accepts_same (own g p i k) (λ j. entry_at m'.tables.heard (heard_place g m m' i j k)) (λ j. heard g p' i j k) (hears i k l s c);
         };
       }
 
@@ -197,7 +197,7 @@ module _ {R S C : Type 0} {g : Config R S C} (ok : Admitted g) (p : Model R S) (
     unfolding advance accept yes_bit
     yes_is i k l s c j lj =
         (clear_at (bit marks i) _ _ s (d.yes i k l c)).bits j lj
-        ∙ ap (λ (b : Bool). g.delivered j b (words_of g.size ws (k * n + j)) i) (and_under (sound g j) (accepted g m m' j k) (accept g p j k) (λ t. a.accept j k lj (yes_no (bit marks j) t) c))
+        ∙ ap (λ (b : Bool). g.delivered j b (words_of g ws (k * n + j)) i) (and_under (sound g j) (accepted g m m' j k) (accept g p j k) (λ t. a.accept j k lj (yes_no (bit marks j) t) c))
 
     enough_is : (i k : ℕ) → i < n → Sound marks i → k < sensors → leb (n - f) (count n (bit (get_or m'.tables.yes (i * sensors + k) 0))) ≡ is_candidate g p' k
     unfolding is_candidate
@@ -207,9 +207,9 @@ module _ {R S C : Type 0} {g : Config R S C} (ok : Admitted g) (p : Model R S) (
     agreed_tie i k l s c =
         let q = i * sensors + k in
         let y : ℕ → Bool = bit (get_or m'.tables.yes q 0) in
-        let told : ℕ → Entry R = λ j. cond (y j) (entry_at m.tables.heard (cell n sensors i j k)) Missing in
+        let told : ℕ → Entry R = λ j. cond (y j) (entry_at m.tables.heard (heard_place g m m' i j k)) Missing in
         let same_told : (j : ℕ) → j < n → told j ≡ heard_from g p' i k j = λ j lj.
-        ap (λ (b : Bool). cond b (entry_at m.tables.heard (cell n sensors i j k)) Missing) (yes_is i k l s c j lj)
+        ap (λ (b : Bool). cond b (entry_at m.tables.heard (heard_place g m m' i j k)) Missing) (yes_is i k l s c j lj)
         ∙ ap (λ (e : Entry R). cond (yes_bit g p' i k j) e Missing) (heard_tie i k l s c j lj) in
         let o = entry_at m.tables.own q in
         let v = majority alike_r n told in

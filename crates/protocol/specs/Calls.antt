@@ -7,11 +7,11 @@ use Rattle.values.specs.declared.Entry.{Entry}
 use Rattle.values.specs.declared.Entry.TheVariants.{Present, Missing}
 use Rattle.protocol.specs.Tables.{table, value_at, Kept, Stored, ByBit, MaskOf}
 use Rattle.protocol.specs.Setup.{Config, sound, lowest_sound, Rule, Tables, sizes, rest, taken_in, filtered, agreed, chosen, Outcome, outcome, told, Moment}
-use Rattle.protocol.specs.Model.{cell, heard_from, accepts, delivers, agrees}
+use Rattle.protocol.specs.Model.{accepts, delivers, agrees}
 use Rattle.protocol.specs.Turns.{next_state, took, sent}
 
 module _ {R S C : Type 0} (g : Config R S C) where
-  open g use {n, f, sensors, marks, means_r, means_s, means_c, alike_r}
+  open g use {n, f, sensors, marks, means_r, means_s, means_c}
 
   -- for each replica
   abbrev pub EachReplica : (ℕ → Type 0) → Type 0
@@ -59,13 +59,21 @@ module _ {R S C : Type 0} (g : Config R S C) where
       pub candidates : after.candidates ≡ before.candidates
       pub chosen : after.chosen ≡ before.chosen
 
+    -- what i is told by j about k: a sound replica's own, a faulty one's claim
+    abbrev pub told_by : List (Entry R) → ℕ → ℕ → ℕ → Entry R
+    told_by claims i j k = cond (bit marks j) (entry_at claims ((j * n + i) * sensors + k)) (entry_at before.own (j * sensors + k))
+
+    -- the place of what i heard from j about k
+    abbrev pub heard_place : ℕ → ℕ → ℕ → ℕ
+    heard_place i j k = (i * n + j) * sensors + k
+
     -- Heard is a sound replica's own and a faulty one's claim; own is accepted when enough of what was heard is the same.
     pub record Filters (claims : List (Entry R)) : Type 0 where
       pub stage : m'.stage ≡ filtered
       pub sizes : sizes after ≡ sizes before
-      pub heard : EachReplica (λ j. EachPlace (λ i k p. Writes i before.heard after.heard (cell n sensors i j k) (entry_at after.heard (cell n sensors i j k) ≡ heard_from n sensors marks before.own claims i j k)))
+      pub heard : EachReplica (λ j. EachPlace (λ i k p. Writes i before.heard after.heard (heard_place i j k) (entry_at after.heard (heard_place i j k) ≡ told_by claims i j k)))
       pub accept : EachPlace (λ i k p. Writes i before.accept after.accept p
-          (slice_index_or after.accept p false ≡ accepts alike_r n f (entry_at before.own p) (λ j. entry_at after.heard (cell n sensors i j k))))
+          (slice_index_or after.accept p false ≡ accepts g (entry_at before.own p) (λ j. entry_at after.heard (heard_place i j k))))
       pub state : after.state ≡ before.state
       pub own : after.own ≡ before.own
       pub run : after.run ≡ before.run
@@ -84,7 +92,7 @@ module _ {R S C : Type 0} (g : Config R S C) where
       pub sizes : sizes after ≡ sizes before
       pub yes : EachPlace (λ i k p. Writes i before.yes after.yes p (MaskOf n (delivers g words accepted i k) (slice_index after.yes p)))
       pub agreed : EachPlace (λ i k p. Writes i before.agreed after.agreed p
-          (SameEntry means_r (entry_at after.agreed p) (agrees alike_r n f (bit (slice_index after.yes p)) (accepted i k) (entry_at before.own p) (λ j. entry_at before.heard (cell n sensors i j k)))))
+          (SameEntry means_r (entry_at after.agreed p) (agrees g (bit (slice_index after.yes p)) (accepted i k) (entry_at before.own p) (λ j. entry_at before.heard (heard_place i j k)))))
       pub candidates : EachReplica (λ i. Writes i before.candidates after.candidates i
           (MaskOf sensors (λ k. present (entry_at after.agreed (i * sensors + k))) (slice_index after.candidates i)))
       pub state : after.state ≡ before.state

@@ -1,5 +1,5 @@
 -- What holds of the sound replicas after any run.
-use Rattle.std.specs.Prelude.{◌≡◌, ℕ, ◌+◌, ◌-◌, ◌*◌, ◌<◌, ◌≤◌, Bool, true, cond, not, ◌&&◌, ◌||◌, T, List, ◌∷◌, length, slice_index}
+use Rattle.std.specs.Prelude.{◌≡◌, ℕ, ◌+◌, ◌-◌, ◌*◌, ◌<◌, ◌≤◌, Bool, cond, not, ◌&&◌, ◌||◌, T, List, ◌∷◌, length, slice_index}
 use Rattle.quorum.specs.Counting.{count}
 use Rattle.values.specs.Entries.{present, SameEntry, entry_at, carries}
 use Rattle.values.specs.declared.Entry.{Entry}
@@ -8,7 +8,7 @@ use Rattle.selections.specs.Choices.{no_sensor}
 use Rattle.selections.specs.Rules.{mid_value}
 use Rattle.protocol.specs.Tables.{value_at, MaskOf}
 use Rattle.protocol.specs.Setup.{Config, sound, EachSound, Rule, Sizes, commit, History, Outcome, outcome, Moment}
-use Rattle.protocol.specs.Model.{Model, own, accept, is_candidate, chosen_sensor, chosen_reading, granted, verdict, in_turn, model}
+use Rattle.protocol.specs.Model.{Model, own, accept, is_candidate, chosen_sensor, chosen_reading, granted, verdict, model}
 
 -- A total order of readings, by meaning.
 pub record TotalOrder {R M : Type 0} (means : R → M) (leq : R → R → Bool) : Type 0 where
@@ -68,13 +68,12 @@ module _ {R S C : Type 0} (g : Config R S C) where
           → (set : ℕ → Bool) → ((k : ℕ) → k < sensors → T (set k) → Steady k) → sensors < 2 * count sensors set
           → (x : R) × (chosen_reading g p ≡ Present x) × Brackets leq set x
 
-  -- the last call was a commit in its turn that was accepted, and `past` came before it
+  -- the last call was an accepted commit, and `past` came before it
   pub record ClosedBy (h past : History R S C) : Type 0 where
     pub sizes : Sizes
     pub states : List (Entry S)
     pub commands : List (Entry C)
     pub last : h ≡ commit sizes states commands ∷ past
-    pub turn : in_turn {R = R} (commit sizes states commands) (model g past).stage ≡ true
     pub granted : verdict g (commit sizes states commands) ≡ granted
 
   -- At a moment that the history h has come to, the sound replicas agree with the model.

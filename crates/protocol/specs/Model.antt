@@ -1,5 +1,5 @@
 -- The reference model: what the calls are given, worked out once for all replicas.
-use Rattle.std.specs.Prelude.{ℕ, ◌+◌, ◌-◌, ◌*◌, Bool, true, false, cond, not, ◌&&◌, List, [], ◌∷◌, length, take, drop, ◌==◌, nat_le, nat_lt}
+use Rattle.std.specs.Prelude.{ℕ, ◌+◌, ◌-◌, ◌*◌, Bool, true, false, cond, ◌&&◌, List, [], ◌∷◌, length, take, drop, ◌==◌, nat_le, nat_lt}
 use Rattle.quorum.specs.Counting.{bit, count, lowest}
 use Rattle.values.specs.Entries.{entry_at, matches}
 use Rattle.values.specs.Majority.{majority}
@@ -11,34 +11,26 @@ use Rattle.protocol.specs.Setup.{Config, sound, lowest_sound, Rule, Sizes, Call,
 
 -- ---- what a replica works out, on its tables as in the model
 
--- where i keeps what it heard from j about sensor k, and where j's claim to i about k stands with i and j changed about
-abbrev pub cell : ℕ → ℕ → ℕ → ℕ → ℕ → ℕ
-cell n sensors i j k = (i * n + j) * sensors + k
+module _ {R S C : Type 0} (g : Config R S C) where
+  open g use {n, f, alike_r, size, delivered}
 
--- what i hears from j about k: a sound replica's own, a faulty one's claim
-abbrev pub heard_from : {R : Type 0} → ℕ → ℕ → ℕ → List (Entry R) → List (Entry R) → ℕ → ℕ → ℕ → Entry R
-heard_from n sensors marks own claims i j k = cond (bit marks j) (entry_at claims (cell n sensors j i k)) (entry_at own (j * sensors + k))
+  -- own is accepted: it is present, and at least n − f of the entries heard are the same
+  abbrev pub accepts : Entry R → (ℕ → Entry R) → Bool
+  accepts Missing heard = false
+  accepts (Present x) heard = nat_le (n - f) (matches alike_r x n heard)
 
--- own is accepted: it is present, and at least n − f of the entries heard are the same
-abbrev pub accepts : {R : Type 0} → (R → R → Bool) → ℕ → ℕ → Entry R → (ℕ → Entry R) → Bool
-accepts alike n f Missing heard = false
-accepts alike n f (Present x) heard = nat_le (n - f) (matches alike x n heard)
+  -- the words of an instance, fewer where the bytes end
+  abbrev pub words_of : List ℕ → ℕ → List ℕ
+  words_of words instance = take size (drop (instance * size) words)
 
--- the words of an instance, fewer where the bytes end
-abbrev pub words_of : ℕ → List ℕ → ℕ → List ℕ
-words_of size words instance = take size (drop (instance * size) words)
+  -- the bit that i gets of j's accept of sensor k; a faulty j has no for it
+  abbrev pub delivers : List ℕ → (ℕ → ℕ → Bool) → ℕ → ℕ → ℕ → Bool
+  delivers words accept i k j = delivered j (sound g j && accept j k) (words_of words (k * n + j)) i
 
--- what was heard from those whose bit is set
-abbrev pub heeded : {R : Type 0} → (ℕ → Bool) → (ℕ → Entry R) → ℕ → Entry R
-heeded bits heard j = cond (bits j) (heard j) Missing
-
--- with at least n − f bits set, own where accepted, else the majority of heard from all whose bit is set
-abbrev pub agrees : {R : Type 0} → (R → R → Bool) → ℕ → ℕ → (ℕ → Bool) → Bool → Entry R → (ℕ → Entry R) → Entry R
-agrees alike n f bits accepted own heard = cond (nat_le (n - f) (count n bits)) (cond accepted own (majority alike n (heeded bits heard))) Missing
-
--- the bit that i gets of j's accept of sensor k; a faulty j has no for it
-abbrev pub delivers : {R S C : Type 0} (g : Config R S C) → List ℕ → (ℕ → ℕ → Bool) → ℕ → ℕ → ℕ → Bool
-delivers g words accept i k j = g.delivered j (sound g j && accept j k) (words_of g.size words (k * g.n + j)) i
+  -- with at least n − f bits set, own where accepted, else the majority of heard from all whose bit is set
+  abbrev pub agrees : (ℕ → Bool) → Bool → Entry R → (ℕ → Entry R) → Entry R
+  agrees bits accepted own heard =
+      cond (nat_le (n - f) (count n bits)) (cond accepted own (majority alike_r n (λ j. cond (bits j) (heard j) Missing))) Missing
 
 -- ---- the model
 
@@ -56,7 +48,7 @@ abbrev pub resting : {R S : Type 0} → S → Model R S
 resting s = record { stage = rest; state = s; entries = []; claims = []; words = []; rule = λ _. no_sensor }
 
 module _ {R S C : Type 0} (g : Config R S C) (p : Model R S) where
-  open g use {n, f, sensors, marks, alike_r}
+  open g use {n, f, sensors, marks}
 
   -- what i gets from sensor k
   abbrev pub own : ℕ → ℕ → Entry R
@@ -64,11 +56,11 @@ module _ {R S C : Type 0} (g : Config R S C) (p : Model R S) where
 
   -- what i hears from j about k
   abbrev pub heard : ℕ → ℕ → ℕ → Entry R
-  heard i j k = heard_from n sensors marks p.entries p.claims i j k
+  heard i j k = cond (bit marks j) (entry_at p.claims ((j * n + i) * sensors + k)) (own j k)
 
   -- i accepts what it gets from k
   unfoldable pub accept : ℕ → ℕ → Bool
-  accept i k = accepts alike_r n f (own i k) (λ j. heard i j k)
+  accept i k = accepts g (own i k) (λ j. heard i j k)
 
   -- bit j of yes at replica i and sensor k
   unfoldable pub yes_bit : ℕ → ℕ → ℕ → Bool
@@ -126,32 +118,24 @@ replica_number = 9
 abbrev pub replica_faulty : ℕ
 replica_faulty = 10
 
--- every lent table has its size
-abbrev pub tables_fit : ℕ → ℕ → Sizes → Bool
-tables_fit n sensors z =
-    (z.state == n) && z.own == n * sensors && z.agreed == n * sensors && z.run == n * sensors && z.accept == n * sensors
-    && z.yes == n * sensors && z.heard == n * n * sensors && z.candidates == n && z.chosen == n
-
--- a stage's questions: on the tables, and then on what comes in
-abbrev pub stage_verdict : Bool → Bool → Verdict
-stage_verdict tables input = ask tables tables_size (ask input input_size granted)
-
--- a look's questions: on the tables, and then on the replica's number
-abbrev pub look_verdict : Bool → ℕ → ℕ → ℕ → Verdict
-look_verdict tables n marks i = ask tables tables_size (ask (nat_lt i n) replica_number (ask (not (bit marks i)) replica_faulty granted))
-
 module _ {R S C : Type 0} (g : Config R S C) where
-  open g use {n, sensors, marks}
+  open g use {n, sensors}
+
+  -- every lent table has its size
+  unfoldable pub tables_fit : Sizes → Bool
+  tables_fit z =
+      (z.state == n) && z.own == n * sensors && z.agreed == n * sensors && z.run == n * sensors && z.accept == n * sensors
+      && z.yes == n * sensors && z.heard == n * n * sensors && z.candidates == n && z.chosen == n
 
   -- the questions of each call in their order
   unfoldable pub verdict : Call R S C → Verdict
-  verdict (intake z es) = stage_verdict (tables_fit n sensors z) (length es == n * sensors)
-  verdict (filter z cs) = stage_verdict (tables_fit n sensors z) (length cs == n * n * sensors)
-  verdict (agree z ws) = stage_verdict (tables_fit n sensors z) true
-  verdict (select z r) = stage_verdict (tables_fit n sensors z) true
-  verdict (commit z ss cs) = stage_verdict (tables_fit n sensors z) (length ss == n * n && length cs == n)
+  verdict (intake z es) = ask (tables_fit z) tables_size (ask (length es == n * sensors) input_size granted)
+  verdict (filter z cs) = ask (tables_fit z) tables_size (ask (length cs == n * n * sensors) input_size granted)
+  verdict (agree z ws) = ask (tables_fit z) tables_size granted
+  verdict (select z r) = ask (tables_fit z) tables_size granted
+  verdict (commit z ss cs) = ask (tables_fit z) tables_size (ask (length ss == n * n && length cs == n) input_size granted)
   verdict abandon = granted
-  verdict (look z i) = look_verdict (tables_fit n sensors z) n marks i
+  verdict (look z i) = ask (tables_fit z) tables_size (ask (nat_lt i n) replica_number (ask (sound g i) replica_faulty granted))
 
   -- ---- what the calls change
 

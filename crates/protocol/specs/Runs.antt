@@ -1,8 +1,8 @@
 -- Runs: making, and then calls that are accepted or refused.
-use Rattle.std.specs.Prelude.{◌≡◌, ℕ, ◌^◌, ◌<◌, ◌≤◌, Bool, true, false, List, [], ◌∷◌, Decides}
+use Rattle.std.specs.Prelude.{◌≡◌, ℕ, ◌^◌, ◌<◌, ◌≤◌, Bool, true, List, [], ◌∷◌, Decides}
 use Rattle.layers.specs.Layers.{Sized, Sound, FewFaulty, Agreed, AllGet}
 use Rattle.selections.specs.Choices.{Chooses}
-use Rattle.protocol.specs.Setup.{Config, Tables, sizes, Call, intake, filter, agree, select, commit, abandon, look, History, nothing, refusal, Moment}
+use Rattle.protocol.specs.Setup.{Config, Tables, sizes, Call, intake, filter, agree, select, commit, abandon, look, History, refusal, Moment}
 use Rattle.protocol.specs.Model.{granted, refused, verdict, in_turn}
 use Rattle.protocol.specs.Calls.{Makes, TakesIn, Filters, Agrees, Selects, Commits, Abandons, Looks}
 
@@ -15,10 +15,6 @@ On t (select z r) = z ≡ sizes t
 On t (commit z ss cs) = z ≡ sizes t
 On t abandon = Unit {0}
 On t (look z i) = z ≡ sizes t
-
--- the same stage and tables, and nothing answered
-abbrev pub passing : {R S C : Type 0} → Moment R S C → Moment R S C
-passing m = record { stage = m.stage; tables = m.tables; answer = nothing }
 
 -- the same stage and tables, and a refusal answered
 abbrev pub refusing : {R S C : Type 0} → ℕ → Moment R S C → Moment R S C
@@ -75,5 +71,3 @@ module _ {R S C : Type 0} (g : Config R S C) where
     -- nothing has changed; refused for its tables, the call may have been lent others
     declined : {h : History R S C} {m : Moment R S C} (c : Call R S C) {k : ℕ} → Run h m
         → in_turn c m.stage ≡ true → verdict g c ≡ refused k → Run (c ∷ h) (refusing k m)
-    -- a call out of turn, which only a list of calls can hold, is passed over
-    passed : {h : History R S C} {m : Moment R S C} (c : Call R S C) → Run h m → in_turn c m.stage ≡ false → Run (c ∷ h) (passing m)

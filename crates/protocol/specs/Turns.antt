@@ -47,31 +47,16 @@ abbrev pub command_of : {S C : Type 0} → (S → C) → Entry S → Entry C
 command_of commanded Missing = Missing
 command_of commanded (Present s) = Present (commanded s)
 
--- the turn of i
-abbrev pub turn_at : ℕ → List Bool → List ℕ → ℕ → Turn
-turn_at sensors accept chosen i = turn_from sensors (i * sensors) accept (slice_index chosen i)
-
--- what j disperses to i, of n replicas
-abbrev pub dispersal : {S : Type 0} → ℕ → ℕ → ℕ → List S → List Bool → List ℕ → List (Entry S) → ℕ → ℕ → Entry S
-dispersal n sensors marks run accept chosen states i j = disperses (bit marks j) (turn_at sensors accept chosen j) run (entry_at states (j * n + i))
-
--- what j sends, of the states that are then held
-abbrev pub sending : {S C : Type 0} → (S → C) → ℕ → ℕ → List Bool → List ℕ → List S → List (Entry C) → ℕ → Entry C
-sending commanded sensors marks accept chosen held commands j =
-    sends (bit marks j) (turn_at sensors accept chosen j) (command_of commanded (value_at held j)) (entry_at commands j)
-
--- ---- the same on a cluster's tables
-
 module _ {R S C : Type 0} (g : Config R S C) (before : Tables R S) where
   open g use {n, sensors, marks}
 
   -- the turn of i
   abbrev pub turn_of : ℕ → Turn
-  turn_of i = turn_at sensors before.accept before.chosen i
+  turn_of i = turn_from sensors (i * sensors) before.accept (slice_index before.chosen i)
 
   -- what j disperses to i
   abbrev pub dispersed_to : List (Entry S) → ℕ → ℕ → Entry S
-  dispersed_to states i j = dispersal n sensors marks before.run before.accept before.chosen states i j
+  dispersed_to states i j = disperses (bit marks j) (turn_of j) before.run (entry_at states (j * n + i))
 
   -- the majority of what was dispersed to i
   abbrev pub offered : List (Entry S) → ℕ → Entry S
@@ -87,4 +72,4 @@ module _ {R S C : Type 0} (g : Config R S C) (before : Tables R S) where
 
   -- what j sends, of the states that are then held
   abbrev pub sent : List S → List (Entry C) → ℕ → Entry C
-  sent held commands j = sending g.commanded sensors marks before.accept before.chosen held commands j
+  sent held commands j = sends (bit marks j) (turn_of j) (command_of g.commanded (value_at held j)) (entry_at commands j)

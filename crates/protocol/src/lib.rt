@@ -15,6 +15,6 @@ pub enum Turn {
 }
 
 // Sound replicas never part, whatever the application and the layer: every run is consistent with the model.
-pub fn never_part<A: Application, L: Layer>()
-    ensures { NeverPart (semantics (Reading-as-Value) (State-as-Value) (Command-as-Value) (A.Application) (L.Layer)) }
+pub fn never_part<A: Application, L: Layer>(app: &A, layer: &L)
+    ensures { NeverPart (semantics A.Reading.Value A.State.Value A.Command.Value A.Application L.Layer) }
 {}

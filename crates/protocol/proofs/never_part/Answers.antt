@@ -4,10 +4,10 @@ use Rattle.protocol.proofs.never_part.Goals as goal
 
 pub returns : goal.returns
 returns g c =
-    runs_never_part (semantics g.row.Reading-Value g.row.State-Value g.row.Command-Value g.A.Application g.L.Layer) (λ k start valid. record {
-      readings = g.met.Reading.Value.sameness;
-      states = g.met.State.Value.sameness;
-      commands = g.met.Command.Value.sameness;
+    runs_never_part (semantics g.A.Reading.Value g.A.State.Value g.A.Command.Value g.A.Application g.L.Layer) (λ k start valid. record {
+      readings = g.met.A.Reading.Value.sameness;
+      states = g.met.A.State.Value.sameness;
+      commands = g.met.A.Command.Value.sameness;
       stepping = g.met.A.Application.stepping k.app;
       commanding = g.met.A.Application.commanding k.app;
       agreement = λ sender own words l. g.met.L.Layer.agreement k.layer k.n k.f k.marks sender own words valid.sized valid.faulty l;

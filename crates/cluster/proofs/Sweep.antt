@@ -1,7 +1,8 @@
 -- A loop over the places of a table: below p each is done, from p on each is as it was.
 use Rattle.std.proofs.Common.{◌≡◌, ℕ, ◌+◌, ◌<◌, ◌≤◌, Bool, true, false, ◌≢◌, List, length, get_or, set, sym, refl, ap, ◌∙◌, subst, arith, get_or-set_other, get_or-set_same, below_more}
 use Rattle.std.proofs.lemmas.Bool.{true≢false, false≢true}
-use Rattle.protocol.specs.Tables.{Kept, ByBit, WrittenAt}
+use Rattle.protocol.specs.Tables.{Kept, ByBit}
+use Rattle.cluster.specs.Writing.{WrittenAt}
 
 pub record Swept {X : Type 0} (skip : ℕ → Bool) (wants : ℕ → X → Type 0) (before after : List X) (p : ℕ) : Type 0 where
   pub done : (q : ℕ) → q < p → WrittenAt (skip q) (wants q) before after q

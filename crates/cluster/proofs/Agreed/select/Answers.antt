@@ -1,5 +1,4 @@
 use Rattle.std.proofs.Common.{true, refl, ◌∙◌}
-use Rattle.protocol.specs.Setup.{sizes}
 use Rattle.cluster.proofs.Fitting.{verdict-select, stage_told, same_sizes}
 use Rattle.cluster.proofs.Choosing.{chosen_placed}
 use Rattle.cluster.proofs.Agreed.select.Goals as goal

@@ -16,11 +16,11 @@ pub write_agreed-requires : goal.write_agreed-requires
 write_agreed-requires g c =
     let a = c.args in
     let fit = fits_each a.self.n a.self.sensors (sizes (lent a.state.now a.own.now a.agreed.now a.run.now a.accept.now a.yes.now a.heard.now a.candidates.now a.chosen.now))
-    (granted_fit _ _ true c.tables_fit-fit.ensures c.in_default.ensures) in (
-      (omega arith, (omega arith, (omega arith, omega arith))),
-      (fit.own, (fit.accept, (c.write_yes.auto.yes ∙ fit.yes, (fit.heard, fit.agreed)))),
-      yes_below (g.L.Layer.delivered a.self.layer a.self.n a.self.f a.self.marks) (g.L.Layer.size a.self.layer a.self.n a.self.f) _ _ _ a.accept.now a.words.now _ _ c.write_yes.ensures,
-    )
+    (granted_fit _ _ true c.tables_fit-fit.ensures c.in_default.ensures) in record {
+      n_bound = (omega arith, (omega arith, (omega arith, omega arith)));
+      own_len = (fit.own, (fit.accept, (c.write_yes.auto.yes ∙ fit.yes, (fit.heard, fit.agreed))));
+      by_index = yes_below (g.L.Layer.delivered a.self.layer a.self.n a.self.f a.self.marks) (g.L.Layer.size a.self.layer a.self.n a.self.f) _ _ _ a.accept.now a.words.now _ _ c.write_yes.ensures;
+    }
 
 pub returns : goal.returns
 returns g c =

@@ -1,5 +1,4 @@
 use Rattle.std.proofs.Common.{refl, ◌∙◌}
-use Rattle.protocol.specs.Setup.{sizes}
 use Rattle.protocol.specs.Clusters.{semantics, config}
 use Rattle.cluster.specs.Answers.{of_taken_in}
 use Rattle.cluster.proofs.Fitting.{verdict-filter, stage_told, same_sizes}

@@ -13,7 +13,7 @@ agree_on-requires g c =
     let n = c.args.n in
     let sensors = c.args.sensors in
     let p = c.loop-p.p in
-    (omega arith, (c.requires.2 p (omega arith) (sym c.if-not-is_set.ensures), (omega arith, omega arith, div_below p sensors n (omega arith) (omega arith), mod_below p sensors (omega arith), omega arith)))
+    (omega arith, (c.requires.by_index p (omega arith) (sym c.if-not-is_set.ensures), (omega arith, omega arith, div_below p sensors n (omega arith) (omega arith), mod_below p sensors (omega arith), omega arith)))
 
 pub loop-p-preserved : goal.loop-p-preserved
 loop-p-preserved g c =
@@ -21,7 +21,7 @@ loop-p-preserved g c =
     let p = c.loop-p.p in
     elim c.if-not-is_set.branch [
       | then-not-is_set w ↦
-          let P : Entry g.row.R.Denot → Type 0 = λ o. SameEntry g.row.R-Value.means w.agree_on.result (agrees_on g.row.R-Value.alike a.n a.f (bit (get_or a.yes.now p 0)) (get_or a.accept.now p false) o (heard_row a.n a.sensors a.heard.now (p / a.sensors) (p % a.sensors))) in
+          let P : Entry g.row.R.Denot → Type 0 = λ o. SameEntry g.R.Value.means w.agree_on.result (agrees_on g.R.Value.alike a.n a.f (bit (get_or a.yes.now p 0)) (get_or a.accept.now p false) o (heard_row a.n a.sensors a.heard.now (p / a.sensors) (p % a.sensors))) in
           swept_wrote _ _ c.if-not-is_set.agreed w.agree_on.result w.agreed-is (omega arith) (sym w.if-not-is_set.ensures) (subst P w.entry_at.ensures w.agree_on.ensures) c.loop-p.invariant
       | else-not-is_set w ↦ swept_left _ _ c.if-not-is_set.agreed w.agreed-is (sym w.if-not-is_set.ensures) c.loop-p.invariant
     ]

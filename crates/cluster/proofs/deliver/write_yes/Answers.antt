@@ -28,9 +28,9 @@ loop-p-preserved g c =
     elim c.if-not-is_set.branch [
       | then-not-is_set w ↦
           let fine : bit a.marks (p / sensors) ≡ false = sym w.if-not-is_set.ensures in
-          swept_wrote _ _ c.if-not-is_set.yes w.column.result w.yes_is (omega arith) fine
+          swept_wrote _ _ c.if-not-is_set.yes w.column.result w.yes-is (omega arith) fine
           (mask_as n _ (got delivered size n sensors a.marks a.accept.now a.words.now (p / sensors) (p % sensors)) w.column.result
           (λ j h. c.deliveries-table.ensures (p % sensors * n + j) (p / sensors) (omega (arith, mul-add-lt (p % sensors) n j sensors k< h)) i< fine ∙ got_of delivered size n sensors a.marks a.accept.now a.words.now (p / sensors) (p % sensors) j h)
           w.column.ensures) c.loop-p.invariant
-      | else-not-is_set w ↦ swept_left _ _ c.if-not-is_set.yes w.yes_is (sym w.if-not-is_set.ensures) c.loop-p.invariant
+      | else-not-is_set w ↦ swept_left _ _ c.if-not-is_set.yes w.yes-is (sym w.if-not-is_set.ensures) c.loop-p.invariant
     ]

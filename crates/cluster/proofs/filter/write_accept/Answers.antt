@@ -18,7 +18,7 @@ loop-p-preserved g c =
     let a = c.args in
     let p = c.loop-p.p in
     elim c.if-not-is_set.branch [
-      | then-not-is_set w ↦ swept_wrote _ _ c.if-not-is_set.accept w.accepts.result w.accept_is (omega arith) (sym w.if-not-is_set.ensures)
-          (w.accepts.ensures ∙ ap (λ (e : Entry g.row.R.Denot). accepts_own g.row.R-Value.alike a.n a.f e (heard_row a.n a.sensors a.heard.now (p / a.sensors) (p % a.sensors))) w.entry_at.ensures) c.loop-p.invariant
-      | else-not-is_set w ↦ swept_left _ _ c.if-not-is_set.accept w.accept_is (sym w.if-not-is_set.ensures) c.loop-p.invariant
+      | then-not-is_set w ↦ swept_wrote _ _ c.if-not-is_set.accept w.accepts.result w.accept-is (omega arith) (sym w.if-not-is_set.ensures)
+          (w.accepts.ensures ∙ ap (λ (e : Entry g.row.R.Denot). accepts_own g.R.Value.alike a.n a.f e (heard_row a.n a.sensors a.heard.now (p / a.sensors) (p % a.sensors))) w.entry_at.ensures) c.loop-p.invariant
+      | else-not-is_set w ↦ swept_left _ _ c.if-not-is_set.accept w.accept-is (sym w.if-not-is_set.ensures) c.loop-p.invariant
     ]

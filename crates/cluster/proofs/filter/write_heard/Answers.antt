@@ -10,7 +10,10 @@ hear-requires g c =
     let n = c.args.n in
     let sensors = c.args.sensors in
     let p = c.loop-p.p in
-    ((omega arith, (omega arith, (hearer_below n sensors p (omega arith) (omega arith) (omega arith), (mod_below (p / sensors) n (omega arith), mod_below p sensors (omega arith))))), (omega arith, omega arith))
+    record {
+      n_bound = (omega arith, (omega arith, (hearer_below n sensors p (omega arith) (omega arith) (omega arith), (mod_below (p / sensors) n (omega arith), mod_below p sensors (omega arith)))));
+      own_len = (omega arith, omega arith);
+    }
 
 pub loop-p-preserved : goal.loop-p-preserved
 loop-p-preserved g c =

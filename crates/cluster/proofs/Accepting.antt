@@ -6,10 +6,10 @@ use Rattle.values.specs.Entries.{entry_at}
 use Rattle.values.specs.declared.Entry.{Entry}
 use Rattle.values.specs.declared.Entry.TheVariants.{Present, Missing}
 use Rattle.protocol.specs.Setup.{Config}
-use Rattle.protocol.specs.Tables.{Kept, ByBit}
+use Rattle.protocol.specs.Tables.{Kept, ByBit, WrittenAt, Written}
 use Rattle.protocol.specs.Model.{accepts}
-use Rattle.cluster.specs.Writing.{WrittenAt, Written, faulty_at, deaf_at, cell, heard_from, Hears, heard_row, accepts_own, Accepts}
-use Rattle.cluster.proofs.Sweep.{placed}
+use Rattle.cluster.specs.Writing.{faulty_at, deaf_at, cell, heard_from, Hears, heard_row, accepts_own, Accepts}
+use Rattle.protocol.proofs.Sweep.{placed}
 use Rattle.cluster.proofs.Stepping.{within}
 
 -- a cell of the table

@@ -7,9 +7,9 @@ use Rattle.values.specs.Entries.{entry_at}
 use Rattle.values.specs.declared.Entry.{Entry}
 use Rattle.values.specs.declared.Entry.TheVariants.{Missing}
 use Rattle.protocol.specs.Setup.{Rule}
-use Rattle.protocol.specs.Tables.{table, Kept, ByBit}
-use Rattle.cluster.specs.Writing.{Written, agreed_row, Chooses}
-use Rattle.cluster.proofs.Sweep.{placed}
+use Rattle.protocol.specs.Tables.{table, Kept, ByBit, Written}
+use Rattle.cluster.specs.Writing.{agreed_row, Chooses}
+use Rattle.protocol.proofs.Sweep.{placed}
 
 module _ {R : Type 0} (agreed : List (Entry R)) (first sensors : ℕ) (h : first + sensors ≤ length agreed) where
   pub row_length : length (take (first + sensors - first) (drop first agreed)) ≡ sensors

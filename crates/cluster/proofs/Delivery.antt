@@ -6,9 +6,9 @@ use Rattle.quorum.specs.Counting.{bit}
 use Rattle.values.specs.Entries.{present, entry_at, SameEntry}
 use Rattle.values.specs.declared.Entry.{Entry}
 use Rattle.values.specs.declared.Entry.TheVariants.{Missing}
-use Rattle.protocol.specs.Tables.{Kept, ByBit, MaskOf}
-use Rattle.cluster.specs.Writing.{WrittenAt, Written, faulty_at, heard_row, Delivers, bit_of, instance_words, gets, got, Gets, agrees_on, AgreesOn, Could}
-use Rattle.cluster.proofs.Sweep.{placed}
+use Rattle.protocol.specs.Tables.{Kept, ByBit, MaskOf, WrittenAt, Written}
+use Rattle.cluster.specs.Writing.{faulty_at, heard_row, Delivers, bit_of, instance_words, gets, got, Gets, agrees_on, AgreesOn, Could}
+use Rattle.protocol.proofs.Sweep.{placed}
 use Rattle.cluster.proofs.Stepping.{within}
 
 -- an instance by its number, and by its sensor and sender

@@ -1,6 +1,4 @@
-pub mod Holding
-pub mod Fitting
-pub mod Sweep
+pub mod Carrying
 pub mod Stepping
 pub mod Accepting
 pub mod Masks

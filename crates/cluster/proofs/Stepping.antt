@@ -1,5 +1,5 @@
 -- What intake writes, and what its record says of each place.
-use Rattle.std.proofs.Common.{◌≡◌, ℕ, ◌+◌, ◌*◌, ◌/◌, ◌<◌, Bool, true, false, not, ◌||◌, List, length, get_or, sym, refl, ap, ◌∙◌, subst, arith}
+use Rattle.std.proofs.Common.{◌≡◌, ℕ, ◌+◌, ◌*◌, ◌/◌, ◌<◌, Bool, true, false, not, ◌||◌, List, length, get_or, sym, refl, ap, ◌∙◌, subst, subst₂, arith}
 use Rattle.std.proofs.lemmas.Nat.{div-mul-add, mul-add-lt}
 use Rattle.std.proofs.lemmas.List.{get_or_read}
 use Rattle.std.proofs.lemmas.Bool.{false≢true}
@@ -8,11 +8,11 @@ use Rattle.values.specs.Entries.{present, entry_at, SameEntry}
 use Rattle.values.specs.declared.Entry.{Entry}
 use Rattle.values.specs.declared.Entry.TheVariants.{Present, Missing}
 use Rattle.protocol.specs.Setup.{Config}
-use Rattle.protocol.specs.Tables.{value_at, Kept, ByBit, Stored}
+use Rattle.protocol.specs.Tables.{value_at, Kept, ByBit, Stored, WrittenAt, Written}
 use Rattle.protocol.specs.Calls.{step_of}
-use Rattle.cluster.specs.Writing.{WrittenAt, Written, faulty_at, idle_at, Owns, Runs}
-use Rattle.cluster.proofs.Holding.{Holds, holds, value_is}
-use Rattle.cluster.proofs.Sweep.{placed}
+use Rattle.cluster.specs.Writing.{faulty_at, idle_at, Owns, Runs, stepped_by}
+use Rattle.protocol.proofs.Holding.{Holds, holds, value_read}
+use Rattle.protocol.proofs.Sweep.{placed}
 
 -- a place of replica i and sensor k is one of the table
 pub within : (n w i k : ℕ) → i < n → k < w → i * w + k < n * w
@@ -26,14 +26,23 @@ own_placed n sensors marks entries before after w i k hi hk =
     placed (Owns entries p) (entry_at after p ≡ entry_at entries p) before after p (bit marks i) (λ _ h. h Missing) (subst P (div-mul-add i sensors k hk) (w p (within n sensors i k hi hk)))
 
 -- what is read is what is stepped
-pub run_wants : {R S M : Type 0} (means : S → M) (step : S → R → S) (sensors : ℕ) (state : List S) (entries : List (Entry R)) (p : ℕ) (e : Entry R) (x : R) (s v : S) → p < length entries → p / sensors < length state
-    → e ≡ get_or entries p e → e ≡ Present x → s ≡ get_or state (p / sensors) s → means v ≡ means (step s x) → Runs means step sensors state entries p v
-run_wants means step sensors state entries p e x s v le ls read is reads h x' s' ex es =
-    let a : e ≡ entry_at entries p = get_or_read entries p e le read Missing in
-    let b : value_at state (p / sensors) ≡ Present s = value_is state (p / sensors) s ls (λ d. sym (get_or_read state (p / sensors) s ls reads d)) in
-    let xs : x ≡ x' = cc in
-    let ss : s ≡ s' = cc in
-    cc
+module _ {R S M : Type 0} (means : S → M) (step : S → R → S) (sensors : ℕ) (state : List S) (entries : List (Entry R)) (p : ℕ) (e : Entry R) (s : S) (le : p < length entries) (read : e ≡ get_or entries p e) where
+  pub run_wants : (v : S) → p / sensors < length state → s ≡ get_or state (p / sensors) s → SameEntry means (Present v) (stepped_by step s e) → Runs means step sensors state entries p v
+  run_wants v ls reads h x s' ex es =
+      let a : e ≡ Present x = get_or_read entries p e le read Missing ∙ ex in
+      let b : value_at state (p / sensors) ≡ Present s = value_read state (p / sensors) s ls reads in
+      let ss : s ≡ s' = cc in
+      let P : Entry R → S → Type 0 = λ d r. SameEntry means (Present v) (stepped_by step r d) in
+      subst₂ P a ss h
+
+  -- run is written exactly where the entry is present
+  pub run_idle : (r : Entry S) → SameEntry means r (stepped_by step s e) → not (present (entry_at entries p)) ≡ not (present r)
+  run_idle r h = ap (λ d. not (present d)) (sym (get_or_read entries p e le read Missing)) ∙ by e r h where
+    by : (d : Entry R) (r : Entry S) → SameEntry means r (stepped_by step s d) → not (present d) ≡ not (present r)
+    by Missing Missing h = refl
+    by Missing (Present v) h = absurd h
+    by (Present x) Missing h = absurd h
+    by (Present x) (Present v) h = refl
 
 module _ {R S C : Type 0} (g : Config R S C) where
   open g use {means_s, stepped}

@@ -1,5 +1,2 @@
-pub mod Numbers
-pub mod Refusals
-pub mod Questions
 pub mod Writing
 pub mod Answers

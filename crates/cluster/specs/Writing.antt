@@ -6,15 +6,7 @@ use Rattle.values.specs.Majority.{majority}
 use Rattle.values.specs.declared.Entry.{Entry}
 use Rattle.values.specs.declared.Entry.TheVariants.{Present, Missing}
 use Rattle.protocol.specs.Setup.{Rule}
-use Rattle.protocol.specs.Tables.{table, value_at, Kept, ByBit, MaskOf}
-
--- a place that is skipped keeps its very value, and any other holds what is wanted of it
-abbrev pub WrittenAt : {X : Type 0} → Bool → (X → Type 0) → List X → List X → ℕ → Type 0
-WrittenAt {X} skip wants before after p = ByBit skip (Kept before after p) ((d : X) → wants (slice_index_or after p d))
-
--- so it is at every place below the bound
-abbrev pub Written : {X : Type 0} → ℕ → (ℕ → Bool) → (ℕ → X → Type 0) → List X → List X → Type 0
-Written bound skip wants before after = (p : ℕ) → p < bound → WrittenAt (skip p) (wants p) before after p
+use Rattle.protocol.specs.Tables.{table, value_at, MaskOf}
 
 -- the place is a faulty replica's, where each has w places
 abbrev pub faulty_at : ℕ → ℕ → ℕ → Bool
@@ -27,6 +19,11 @@ Owns entries p v = v ≡ entry_at entries p
 -- run: skipped also where the entry is missing
 abbrev pub idle_at : {R : Type 0} → ℕ → ℕ → List (Entry R) → ℕ → Bool
 idle_at marks sensors entries p = faulty_at marks sensors p || not (present (entry_at entries p))
+
+-- a state stepped by an entry, missing where that is
+abbrev pub stepped_by : {R S : Type 0} → (S → R → S) → S → Entry R → Entry S
+stepped_by step s Missing = Missing
+stepped_by step s (Present x) = Present (step s x)
 
 -- run: the replica's state stepped by the entry, by meaning
 abbrev pub Runs : {R S M : Type 0} → (S → M) → (S → R → S) → ℕ → List S → List (Entry R) → ℕ → S → Type 0

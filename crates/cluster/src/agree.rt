@@ -3,18 +3,20 @@ ghost use Rattle.std.specs.Prelude.{◌≡◌, ℕ, ◌+◌, ◌-◌, ◌*◌, �
 ghost use Rattle.quorum.specs.Counting.{bit};
 ghost use Rattle.values.specs.Entries.{present, SameEntry, entry_at};
 ghost use Rattle.protocol.specs.Clusters.{semantics};
-ghost use Rattle.protocol.specs.Tables.{MaskOf};
-ghost use Rattle.cluster.specs.Answers.{lent, AgreeAnswers};
-ghost use Rattle.cluster.specs.Writing.{Written, faulty_at, heard_row, RowFits, agrees_on, AgreesOn, Could};
+ghost use Rattle.protocol.specs.Tables.{MaskOf, Written};
+ghost use Rattle.protocol.specs.Setup.{lent};
+ghost use Rattle.cluster.specs.Answers.{AgreeAnswers};
+ghost use Rattle.cluster.specs.Writing.{faulty_at, heard_row, RowFits, agrees_on, AgreesOn, Could};
 
 use crate::deliver::write_yes;
 use crate::moves::to_agreed;
-use crate::places::{entry_at, place};
-use crate::questions::{stage_refusal, tables_fit};
+use crate::places::{entry_at, is_sound, place};
 use crate::row::heard_majority;
 use crate::{Agreed, Filtered, Refused};
 use layers::layer::Layer;
-use quorum::{is_set, set_bits};
+use protocol::promise;
+use questions::asking::stage_refusal;
+use quorum::set_bits;
 use values::{Application, Entry, Value};
 
 // What replica i agrees on of sensor k, from its mask.
@@ -61,7 +63,7 @@ fn write_agreed<R: Value>(
 {
     for p in 0..agreed.len() {
         let i = p / sensors;
-        if !is_set(marks, i) {
+        if is_sound(marks, i) {
             agreed[p] = agree_on(
                 n,
                 f,
@@ -103,7 +105,7 @@ fn write_candidates<R: Value>(
     ensures { Written n (bit marks) (Could sensors agreed.now) candidates.old candidates.new }
 {
     for i in 0..candidates.len() {
-        if !is_set(marks, i) {
+        if is_sound(marks, i) {
             candidates[i] = mask_of(n, sensors, i, agreed);
         }
     }
@@ -129,9 +131,8 @@ impl<A: Application, L: Layer> Filtered<A, L> {
             (lent state.now own.now agreed.new run.now accept.now yes.new heard.now candidates.new chosen.now)
             result }
     {
-        let fit = tables_fit(
-            self.n,
-            self.sensors,
+        promise::<A, L>();
+        let fit = self.parameters.tables_fit(
             state.len(),
             own.len(),
             agreed.len(),
@@ -150,26 +151,32 @@ impl<A: Application, L: Layer> Filtered<A, L> {
         }
         write_yes(
             &self.layer,
-            self.n,
-            self.f,
-            self.sensors,
-            self.marks,
+            self.parameters.n,
+            self.parameters.f,
+            self.parameters.sensors,
+            self.parameters.marks,
             accept,
             words,
             yes,
         );
         write_agreed(
-            self.n,
-            self.f,
-            self.sensors,
-            self.marks,
+            self.parameters.n,
+            self.parameters.f,
+            self.parameters.sensors,
+            self.parameters.marks,
             own,
             accept,
             yes,
             heard,
             agreed,
         );
-        write_candidates(self.n, self.sensors, self.marks, agreed, candidates);
+        write_candidates(
+            self.parameters.n,
+            self.parameters.sensors,
+            self.parameters.marks,
+            agreed,
+            candidates,
+        );
         Ok(to_agreed(self))
     }
 }

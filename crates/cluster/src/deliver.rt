@@ -2,10 +2,10 @@
 ghost use Rattle.std.specs.Prelude.{◌≡◌, ℕ, ◌+◌, ◌*◌, ◌/◌, ◌%◌, ◌<◌, ◌≤◌, false, length, slice_index};
 ghost use Rattle.quorum.specs.Counting.{bit as bit_at};
 ghost use Rattle.layers.specs.Layers.{Sized, Sound};
-ghost use Rattle.protocol.specs.Tables.{MaskOf};
-ghost use Rattle.cluster.specs.Writing.{Written, faulty_at, bit_of, instance_words, gets, Gets};
+ghost use Rattle.protocol.specs.Tables.{MaskOf, Written};
+ghost use Rattle.cluster.specs.Writing.{faulty_at, bit_of, instance_words, gets, Gets};
 
-use crate::places::place;
+use crate::places::{is_sound, place};
 use layers::layer::Layer;
 use quorum::is_set;
 
@@ -38,7 +38,27 @@ fn bit_of(n: usize, sensors: usize, marks: u16, j: usize, k: usize, accept: &[bo
     }
 }
 
-// What the layer delivers: at m the mask of instance m, whose sender is m % n and whose sensor is m / n.
+// What the layer delivers in instance m, whose sender is m % n and whose sensor is m / n.
+fn delivery<L: Layer>(
+    layer: &L,
+    n: usize,
+    f: usize,
+    sensors: usize,
+    marks: u16,
+    accept: &[bool],
+    words: &[u8],
+    m: usize,
+) -> u16
+    requires { (Sized n f) × ((sensors ≤ 4) × ((m < n * sensors) × (length accept.now ≡ n * sensors))) }
+    ensures { (i : ℕ) → i < n → Sound marks i → bit_at result i ≡ gets (L.Layer.delivered layer.now n f marks) (L.Layer.size layer.now n f) n sensors marks accept.now words.now m i }
+{
+    let sender = m % n;
+    let bit = bit_of(n, sensors, marks, sender, m / n, accept);
+    let said = words_of(words, layer.size(n, f), m);
+    layer.deliver(n, f, marks, sender, bit, said)
+}
+
+// What the layer delivers in each instance.
 fn deliveries<L: Layer>(
     layer: &L,
     n: usize,
@@ -51,18 +71,9 @@ fn deliveries<L: Layer>(
     requires { (Sized n f) × ((sensors ≤ 4) × (length accept.now ≡ n * sensors)) }
     ensures { (m i : ℕ) → m < n * sensors → i < n → Sound marks i → bit_at (slice_index result m) i ≡ gets (L.Layer.delivered layer.now n f marks) (L.Layer.size layer.now n f) n sensors marks accept.now words.now m i }
 {
-    let size = layer.size(n, f);
     let mut table: [u16; 64] = [0; 64];
     for m in 0..n * sensors {
-        let j = m % n;
-        table[m] = layer.deliver(
-            n,
-            f,
-            marks,
-            j,
-            bit_of(n, sensors, marks, j, m / n, accept),
-            words_of(words, size, m),
-        );
+        table[m] = delivery(layer, n, f, sensors, marks, accept, words, m);
     }
     table
 }
@@ -82,7 +93,7 @@ fn column(table: &[u16], first: usize, n: usize, i: usize) -> u16
 }
 
 // Writes yes at the places of the sound replicas.
-pub fn write_yes<L: Layer>(
+pub(crate) fn write_yes<L: Layer>(
     layer: &L,
     n: usize,
     f: usize,
@@ -99,7 +110,7 @@ pub fn write_yes<L: Layer>(
     let table = deliveries(layer, n, f, sensors, marks, accept, words);
     for p in 0..yes.len() {
         let i = p / sensors;
-        if !is_set(marks, i) {
+        if is_sound(marks, i) {
             yes[p] = column(&table, p % sensors * n, n, i);
         }
     }

@@ -1,15 +1,18 @@
 // Filter: what each sound replica hears from each, and which of its own entries it accepts.
 ghost use Rattle.std.specs.Prelude.{◌≡◌, ◌+◌, ◌-◌, ◌*◌, ◌/◌, ◌%◌, ◌<◌, ◌≤◌, length};
 ghost use Rattle.protocol.specs.Clusters.{semantics};
-ghost use Rattle.cluster.specs.Answers.{lent, FilterAnswers};
-ghost use Rattle.cluster.specs.Writing.{Written, faulty_at, deaf_at, heard_from, Hears, heard_row, RowFits, accepts_own, Accepts};
+ghost use Rattle.protocol.specs.Setup.{lent};
+ghost use Rattle.cluster.specs.Answers.{FilterAnswers};
+ghost use Rattle.protocol.specs.Tables.{Written};
+ghost use Rattle.cluster.specs.Writing.{faulty_at, deaf_at, heard_from, Hears, heard_row, RowFits, accepts_own, Accepts};
 
 use crate::moves::to_filtered;
-use crate::places::{entry_at, heard_place, place};
-use crate::questions::{stage_refusal, tables_fit};
+use crate::places::{entry_at, heard_place, is_sound, place};
 use crate::row::heard_matches;
 use crate::{Filtered, Refused, TakenIn};
 use layers::layer::Layer;
+use protocol::promise;
+use questions::asking::stage_refusal;
 use quorum::is_set;
 use values::{Application, Entry, Value};
 
@@ -51,7 +54,7 @@ fn write_heard<R: Value>(
     for p in 0..heard.len() {
         let row = p / sensors;
         let i = row / n;
-        if !is_set(marks, i) {
+        if is_sound(marks, i) {
             heard[p] = hear(n, sensors, marks, i, row % n, p % sensors, own, claims);
         }
     }
@@ -92,7 +95,7 @@ fn write_accept<R: Value>(
 {
     for p in 0..accept.len() {
         let i = p / sensors;
-        if !is_set(marks, i) {
+        if is_sound(marks, i) {
             accept[p] = accepts(n, f, sensors, i, p % sensors, entry_at(own, p), heard);
         }
     }
@@ -118,9 +121,8 @@ impl<A: Application, L: Layer> TakenIn<A, L> {
             (lent state.now own.now agreed.now run.now accept.new yes.now heard.new candidates.now chosen.now)
             result }
     {
-        let fit = tables_fit(
-            self.n,
-            self.sensors,
+        promise::<A, L>();
+        let fit = self.parameters.tables_fit(
             state.len(),
             own.len(),
             agreed.len(),
@@ -131,14 +133,32 @@ impl<A: Application, L: Layer> TakenIn<A, L> {
             candidates.len(),
             chosen.len(),
         );
-        if let Some(refusal) = stage_refusal(fit, claims.len() == self.n * self.n * self.sensors) {
+        if let Some(refusal) = stage_refusal(
+            fit,
+            claims.len() == self.parameters.n * self.parameters.n * self.parameters.sensors,
+        ) {
             return Err(Refused {
                 cluster: self,
                 refusal,
             });
         }
-        write_heard(self.n, self.sensors, self.marks, own, claims, heard);
-        write_accept(self.n, self.f, self.sensors, self.marks, own, heard, accept);
+        write_heard(
+            self.parameters.n,
+            self.parameters.sensors,
+            self.parameters.marks,
+            own,
+            claims,
+            heard,
+        );
+        write_accept(
+            self.parameters.n,
+            self.parameters.f,
+            self.parameters.sensors,
+            self.parameters.marks,
+            own,
+            heard,
+            accept,
+        );
         Ok(to_filtered(self))
     }
 }

@@ -1,14 +1,18 @@
 // Intake: each sound replica takes its own entries in, and runs the application on them.
 ghost use Rattle.std.specs.Prelude.{◌≡◌, ◌+◌, ◌*◌, ◌/◌, ◌<◌, ◌≤◌, length};
 ghost use Rattle.protocol.specs.Clusters.{semantics};
-ghost use Rattle.cluster.specs.Answers.{lent, IntakeAnswers};
-ghost use Rattle.cluster.specs.Writing.{Written, faulty_at, idle_at, Owns, Runs};
+ghost use Rattle.protocol.specs.Setup.{lent};
+ghost use Rattle.cluster.specs.Answers.{IntakeAnswers};
+ghost use Rattle.protocol.specs.Tables.{Written};
+ghost use Rattle.cluster.specs.Writing.{faulty_at, idle_at, Owns, Runs, stepped_by};
+ghost use Rattle.values.specs.Entries.{SameEntry};
 
 use crate::moves::to_taken_in;
-use crate::questions::{stage_refusal, tables_fit};
+use crate::places::is_sound;
 use crate::{Refused, Rest, TakenIn};
 use layers::layer::Layer;
-use quorum::is_set;
+use protocol::promise;
+use questions::asking::stage_refusal;
 use values::{Application, Entry, Value};
 
 // Writes own at the places of the sound replicas.
@@ -17,9 +21,19 @@ fn write_own<R: Value>(sensors: usize, marks: u16, entries: &[Entry<R>], own: &m
     ensures { Written (length own.old) (faulty_at marks sensors) (Owns entries.now) own.old own.new }
 {
     for p in 0..own.len() {
-        if !is_set(marks, p / sensors) {
+        if is_sound(marks, p / sensors) {
             own[p] = entries[p];
         }
+    }
+}
+
+// What the application makes of a state by an entry, missing where the entry is.
+fn run_of<A: Application>(app: &A, state: &A::State, entry: &Entry<A::Reading>) -> Entry<A::State>
+    ensures { SameEntry A.State.Value.means result (stepped_by (A.Application.stepped app.now) state.now entry.now) }
+{
+    match entry {
+        Entry::Present(x) => Entry::Present(app.step(state, x)),
+        Entry::Missing => Entry::Missing,
     }
 }
 
@@ -37,10 +51,9 @@ fn write_run<A: Application>(
 {
     for p in 0..run.len() {
         let i = p / sensors;
-        if !is_set(marks, i) {
-            let e = entries[p];
-            if let Entry::Present(x) = e {
-                run[p] = app.step(&state[i], &x);
+        if is_sound(marks, i) {
+            if let Entry::Present(next) = run_of(app, &state[i], &entries[p]) {
+                run[p] = next;
             }
         }
     }
@@ -66,9 +79,8 @@ impl<A: Application, L: Layer> Rest<A, L> {
             (lent state.now own.new agreed.now run.new accept.now yes.now heard.now candidates.now chosen.now)
             result }
     {
-        let fit = tables_fit(
-            self.n,
-            self.sensors,
+        promise::<A, L>();
+        let fit = self.parameters.tables_fit(
             state.len(),
             own.len(),
             agreed.len(),
@@ -79,14 +91,24 @@ impl<A: Application, L: Layer> Rest<A, L> {
             candidates.len(),
             chosen.len(),
         );
-        if let Some(refusal) = stage_refusal(fit, entries.len() == self.n * self.sensors) {
+        if let Some(refusal) = stage_refusal(
+            fit,
+            entries.len() == self.parameters.n * self.parameters.sensors,
+        ) {
             return Err(Refused {
                 cluster: self,
                 refusal,
             });
         }
-        write_own(self.sensors, self.marks, entries, own);
-        write_run(&self.app, self.sensors, self.marks, state, entries, run);
+        write_own(self.parameters.sensors, self.parameters.marks, entries, own);
+        write_run(
+            &self.app,
+            self.parameters.sensors,
+            self.parameters.marks,
+            state,
+            entries,
+            run,
+        );
         Ok(to_taken_in(self))
     }
 }

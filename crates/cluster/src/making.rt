@@ -1,11 +1,13 @@
 // Making: the questions, and the starting state in all places.
 ghost use Rattle.std.specs.Prelude.{◌≡◌, ℕ, ◌*◌, ◌<◌, length, slice_index_or};
 ghost use Rattle.protocol.specs.Clusters.{semantics};
-ghost use Rattle.cluster.specs.Answers.{lent, MakeAnswers};
+ghost use Rattle.protocol.specs.Setup.{lent};
+ghost use Rattle.cluster.specs.Answers.{MakeAnswers};
 
-use crate::questions::{number_refusal, tables_fit};
-use crate::{Refusal, Rest, Unmade};
+use crate::{Rest, Unmade};
 use layers::layer::Layer;
+use protocol::promise;
+use questions::{Parameters, Refusal};
 use values::{Application, Entry, Value};
 
 // Writes the state to every place.
@@ -42,16 +44,18 @@ impl<A: Application, L: Layer> Rest<A, L> {
             (lent state.new own.now agreed.now run.now accept.now yes.now heard.now candidates.now chosen.now)
             result }
     {
-        if let Some(refusal) = number_refusal(n, f, sensors, marks) {
-            return Err(Unmade {
-                app,
-                layer,
-                refusal,
-            });
-        }
-        if !tables_fit(
-            n,
-            sensors,
+        promise::<A, L>();
+        let parameters = match Parameters::new(n, f, sensors, marks) {
+            Ok(parameters) => parameters,
+            Err(refusal) => {
+                return Err(Unmade {
+                    app,
+                    layer,
+                    refusal,
+                });
+            }
+        };
+        let fit = parameters.tables_fit(
             state.len(),
             own.len(),
             agreed.len(),
@@ -61,7 +65,8 @@ impl<A: Application, L: Layer> Rest<A, L> {
             heard.len(),
             candidates.len(),
             chosen.len(),
-        ) {
+        );
+        if !fit {
             return Err(Unmade {
                 app,
                 layer,
@@ -70,10 +75,7 @@ impl<A: Application, L: Layer> Rest<A, L> {
         }
         write_start(start, state);
         Ok(Rest {
-            n,
-            f,
-            sensors,
-            marks,
+            parameters,
             app,
             layer,
         })

@@ -13,7 +13,7 @@ use values::{Entry, Value};
 
 // What replica i heard about sensor k, by the sender.
 #[derive(Drop)]
-pub struct Row<'a, T> {
+struct Row<'a, T> {
     heard: &'a [Entry<T>],
     n: usize,
     sensors: usize,
@@ -40,7 +40,7 @@ impl<'a, T: Value> Entries for Row<'a, T> {
 }
 
 // How many replicas told i the same about sensor k as x.
-pub fn heard_matches<T: Value>(
+pub(crate) fn heard_matches<T: Value>(
     n: usize,
     sensors: usize,
     i: usize,
@@ -63,7 +63,7 @@ pub fn heard_matches<T: Value>(
 
 // The same, from the senders of a mask only.
 #[derive(Drop)]
-pub struct Heeded<'a, T> {
+struct Heeded<'a, T> {
     row: Row<'a, T>,
     mask: u16,
 }
@@ -89,7 +89,7 @@ impl<'a, T: Value> Entries for Heeded<'a, T> {
 }
 
 // The majority of what replica i heard about sensor k from the senders of a mask.
-pub fn heard_majority<T: Value>(
+pub(crate) fn heard_majority<T: Value>(
     n: usize,
     sensors: usize,
     i: usize,

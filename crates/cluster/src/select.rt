@@ -2,14 +2,17 @@
 ghost use Rattle.std.specs.Prelude.{◌≡◌, ◌+◌, ◌*◌, ◌<◌, ◌≤◌, length};
 ghost use Rattle.quorum.specs.Counting.{bit};
 ghost use Rattle.protocol.specs.Clusters.{semantics};
-ghost use Rattle.cluster.specs.Answers.{lent, SelectAnswers};
-ghost use Rattle.cluster.specs.Writing.{Written, agreed_row, Chooses};
+ghost use Rattle.protocol.specs.Setup.{lent};
+ghost use Rattle.cluster.specs.Answers.{SelectAnswers};
+ghost use Rattle.protocol.specs.Tables.{Written};
+ghost use Rattle.cluster.specs.Writing.{agreed_row, Chooses};
 
 use crate::moves::to_chosen;
-use crate::questions::{stage_refusal, tables_fit};
+use crate::places::is_sound;
 use crate::{Agreed, Chosen, Refused};
 use layers::layer::Layer;
-use quorum::is_set;
+use protocol::promise;
+use questions::asking::stage_refusal;
 use selections::Selection;
 use values::{Application, Entry, Value};
 
@@ -32,6 +35,20 @@ fn row_of<R: Value>(n: usize, sensors: usize, i: usize, agreed: &[Entry<R>]) -> 
     &agreed[first..first + sensors]
 }
 
+// The selection's answer on what replica i agreed on.
+fn choice_of<R: Value, S: Selection<R>>(
+    n: usize,
+    sensors: usize,
+    selection: &S,
+    i: usize,
+    agreed: &[Entry<R>],
+) -> u8
+    requires { (n ≤ 16) × ((1 ≤ sensors) × ((sensors ≤ 4) × ((i < n) × (length agreed.now ≡ n * sensors)))) }
+    ensures { result ≡ S.Selection.choice selection.now (agreed_row sensors agreed.now i) }
+{
+    selection.choose(row_of(n, sensors, i, agreed))
+}
+
 // Writes the chosen sensors of the sound replicas.
 fn write_chosen<R: Value, S: Selection<R>>(
     n: usize,
@@ -45,8 +62,8 @@ fn write_chosen<R: Value, S: Selection<R>>(
     ensures { Written n (bit marks) (Chooses (S.Selection.choice selection.now) sensors agreed.now) chosen.old chosen.new }
 {
     for i in 0..chosen.len() {
-        if !is_set(marks, i) {
-            chosen[i] = selection.choose(row_of(n, sensors, i, agreed));
+        if is_sound(marks, i) {
+            chosen[i] = choice_of(n, sensors, selection, i, agreed);
         }
     }
 }
@@ -71,9 +88,8 @@ impl<A: Application, L: Layer> Agreed<A, L> {
             (lent state.now own.now agreed.now run.now accept.now yes.now heard.now candidates.now chosen.new)
             result }
     {
-        let fit = tables_fit(
-            self.n,
-            self.sensors,
+        promise::<A, L>();
+        let fit = self.parameters.tables_fit(
             state.len(),
             own.len(),
             agreed.len(),
@@ -90,7 +106,14 @@ impl<A: Application, L: Layer> Agreed<A, L> {
                 refusal,
             });
         }
-        write_chosen(self.n, self.sensors, self.marks, selection, agreed, chosen);
+        write_chosen(
+            self.parameters.n,
+            self.parameters.sensors,
+            self.parameters.marks,
+            selection,
+            agreed,
+            chosen,
+        );
         Ok(to_chosen(self))
     }
 }

@@ -1,10 +1,10 @@
 -- The promise over the runs of a cluster, and a call's contract from what it does.
 use Rattle.std.proofs.Common.{◌≡◌, ℕ, true, [], ◌∷◌, refl, ◌∙◌, subst}
-use Rattle.protocol.specs.Setup.{Call, Answer}
+use Rattle.protocol.specs.Setup.{Call, History, Answer}
 use Rattle.protocol.specs.Model.{granted, refused, verdict, in_turn}
 use Rattle.protocol.specs.Calls.{Makes}
 use Rattle.protocol.specs.Runs.{On, refusing, Valid, Lawful, Owed, Does, made, done, declined}
-use Rattle.protocol.specs.Clusters.{Semantics, Cluster, Snapshot, config, Came, ConsistentAt, NeverPart, Carries}
+use Rattle.protocol.specs.Clusters.{Semantics, Cluster, Snapshot, config, Came, ConsistentAt, NeverPart, Throughout, Carries}
 use Rattle.protocol.proofs.Runs as runs
 
 -- Sound replicas never part, where values, application and layer keep their laws.
@@ -21,13 +21,21 @@ module _ {P L R S C : Type 0} (w : Semantics P L R S C) (never : NeverPart w) wh
       let came : Came w q.cluster start [] q = record { kept = refl; run = made valid makes } in
       (came, never q.cluster start [] q came)
 
-  module _ (c : Call R S C) (q : Answer S C → Snapshot P L R S C) (q' : Snapshot P L R S C)
-      (turn : (last : Answer S C) → in_turn c (q last).moment.stage ≡ true) where
+  -- a run came through every moment before
+  pub throughout : (origin : Cluster P L) (start : S) (h : History R S C) (q : Snapshot P L R S C) → Came w origin start h q → Throughout w origin start h
+  throughout origin start h q came later past e =
+      let g = config w origin start in
+      let b = runs.before g later past h q.moment came.run e in
+      let q₀ : Snapshot P L R S C = record { cluster = origin; moment = b.0 } in
+      let came₀ : Came w origin start past q₀ = record { kept = refl; run = b.1 } in
+      (q₀, came₀, never origin start past q₀ came₀)
+
+  module _ (c : Call R S C) (q : Answer S C → Snapshot P L R S C) (q' : Snapshot P L R S C) where
     -- an accepted call
-    pub carries : ((last : Answer S C) → On (q last).moment.tables c) → ((start : S) (last : Answer S C) → Owed (config w (q last).cluster start) c)
+    pub carries : ((last : Answer S C) → in_turn c (q last).moment.stage ≡ true) → ((last : Answer S C) → On (q last).moment.tables c) → ((start : S) (last : Answer S C) → Owed (config w (q last).cluster start) c)
         → ((start : S) (last : Answer S C) → verdict (config w (q last).cluster start) c ≡ granted) → ((last : Answer S C) → q'.cluster ≡ (q last).cluster)
         → ((start : S) (last : Answer S C) → Does (config w (q last).cluster start) c (q last).moment q'.moment) → Carries w c q q'
-    carries on owed v e d origin start h last came =
+    carries turn on owed v e d origin start h last came =
         let came' : Came w origin start (c ∷ h) q' = record {
           kept = e last ∙ came.kept;
           run = done c came.run (turn last) (on last)
@@ -38,9 +46,9 @@ module _ {P L R S C : Type 0} (w : Semantics P L R S C) (never : NeverPart w) wh
         (came', never origin start (c ∷ h) q' came')
 
     -- a refused call, on any tables
-    pub carries_refused : (k : ℕ) → ((start : S) (last : Answer S C) → verdict (config w (q last).cluster start) c ≡ refused k)
+    pub carries_refused : ((last : Answer S C) → in_turn c (q last).moment.stage ≡ true) → (k : ℕ) → ((start : S) (last : Answer S C) → verdict (config w (q last).cluster start) c ≡ refused k)
         → ((last : Answer S C) → q' ≡ record { cluster = (q last).cluster; moment = refusing k (q last).moment }) → Carries w c q q'
-    carries_refused k v e origin start h last came =
+    carries_refused turn k v e origin start h last came =
         let refusal : Snapshot P L R S C = record { cluster = (q last).cluster; moment = refusing k (q last).moment } in
         let came' : Came w origin start (c ∷ h) refusal = record {
           kept = came.kept;

@@ -7,3 +7,5 @@ pub mod Closing
 pub mod Steadily
 pub mod Runs
 pub mod Clusters
+pub mod Holding
+pub mod Sweep

@@ -1,5 +1,5 @@
 -- Every run is consistent: sound replicas never part.
-use Rattle.std.proofs.Common.{◌≡◌, ℕ, Bool, true, cond, ◌∷◌, sym, ap, ◌∙◌, subst, arith}
+use Rattle.std.proofs.Common.{◌≡◌, ℕ, Bool, true, cond, [], ◌∷◌, ◌++◌, sym, refl, ap, ◌∙◌, subst, arith}
 use Rattle.values.specs.declared.Entry.TheVariants.{Present}
 use Rattle.protocol.specs.Tables.{value_at}
 use Rattle.protocol.specs.Setup.{Config, Tables, Call, intake, filter, agree, select, commit, abandon, look, History, Stage, taken_in, filtered, agreed, chosen, Moment}
@@ -92,6 +92,41 @@ module _ {R S C : Type 0} (g : Config R S C) where
   valid_of (made v d) = v
   valid_of (done c came turn on owed v d) = valid_of came
   valid_of (declined c came turn v) = valid_of came
+
+  -- before its last call a run had come so far without it
+  earlier : {h : History R S C} {m : Moment R S C} → Run g h m → (c : Call R S C) (past : History R S C) → h ≡ c ∷ past → (m₀ : Moment R S C) × Run g past m₀
+  earlier (made v d) c past e = absurd (let z : ◌≡◌ {A = ℕ} 0 1 = cc in omega arith)
+  earlier (done {h = h} {m = m} b came turn on owed v d) c past e = let same : h ≡ past = cc in (m, subst (λ (x : History R S C). Run g x m) same came)
+  earlier (declined {h = h} {m = m} b came turn v) c past e = let same : h ≡ past = cc in (m, subst (λ (x : History R S C). Run g x m) same came)
+
+  -- a run came through every moment before
+  pub before : (later past h : History R S C) (m : Moment R S C) → Run g h m → h ≡ later ++ past → (m₀ : Moment R S C) × Run g past m₀
+  before [] past h m came e = (m, subst (λ (x : History R S C). Run g x m) e came)
+  before (c ∷ later) past h m came e = let r = earlier came c (later ++ past) e in before later past (later ++ past) r.0 r.1 refl
+
+  -- a run stands at the model's stage
+  staged_step : (c : Call R S C) (p : Model R S) (m m' : Moment R S C) → m.stage ≡ p.stage → Does g c m m' → m'.stage ≡ (advance g c p).stage
+  unfolding advance
+  staged_step (intake z es) p m m' e d = d.stage
+  staged_step (filter z cs) p m m' e d = d.stage
+  staged_step (agree z ws) p m m' e d = d.stage
+  staged_step (select z r) p m m' e d = d.stage
+  staged_step (commit z ss cs) p m m' e d = d.stage
+  staged_step abandon p m m' e d = d.stage
+  staged_step (look z i) p m m' e d = d.stage ∙ e
+
+  pub staged : {h : History R S C} {m : Moment R S C} → Run g h m → m.stage ≡ (model g h).stage
+  unfolding model
+  staged (made v d) = d.stage
+  staged (done {h = h} {m = m} {m' = m'} c came turn on owed v d) =
+      let at = staged came in
+      let now : in_turn c (model g h).stage ≡ true = subst (λ (s : Stage). in_turn c s ≡ true) at turn in
+      staged_step c (model g h) m m' at d
+      ∙ sym (ap (λ (b : Bool). (cond b (decided g (verdict g c) c (model g h)) (model g h)).stage) now ∙ ap (λ (x : Verdict). (decided g x c (model g h)).stage) v)
+  staged (declined {h = h} {m = m} c {k = k} came turn v) =
+      let at = staged came in
+      let now : in_turn c (model g h).stage ≡ true = subst (λ (s : Stage). in_turn c s ≡ true) at turn in
+      at ∙ sym (ap (λ (b : Bool). (cond b (decided g (verdict g c) c (model g h)) (model g h)).stage) now ∙ ap (λ (x : Verdict). (decided g x c (model g h)).stage) v)
 
   -- Sound replicas never part.
   pub runs_never_part : Lawful g → (h : History R S C) (m : Moment R S C) → Run g h m → Consistent g h m

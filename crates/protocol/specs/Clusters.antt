@@ -1,5 +1,5 @@
 -- Runs of a cluster, and what the contract of each call says of them.
-use Rattle.std.specs.Prelude.{◌≡◌, ℕ, Bool, List, ◌∷◌}
+use Rattle.std.specs.Prelude.{◌≡◌, ℕ, Bool, List, ◌∷◌, ◌++◌}
 use Rattle.layers.specs.declared.layer.Layer.{Ghosts as LayerGhosts}
 use Rattle.values.specs.declared.Value.{Ghosts as ValueGhosts}
 use Rattle.values.specs.declared.Application.{Ghosts as ApplicationGhosts}
@@ -91,6 +91,10 @@ module _ {P L R S C : Type 0} (w : Semantics P L R S C) where
   -- The promise for every run.
   abbrev pub NeverPart : Type 0
   NeverPart = (origin : Cluster P L) (start : S) (h : History R S C) (q : Snapshot P L R S C) → Came origin start h q → ConsistentAt origin start h q
+
+  -- At every moment on the way, from making on, a run had come so far and the sound replicas agreed with the model.
+  abbrev pub Throughout : Cluster P L → S → History R S C → Type 0
+  Throughout origin start h = (later past : History R S C) → h ≡ later ++ past → (q : Snapshot P L R S C) × Came origin start past q × ConsistentAt origin start past q
 
   -- Whatever run came to q, whatever was answered last, the call carries it on to q' and is consistent there.
   abbrev pub Carries : Call R S C → (Answer S C → Snapshot P L R S C) → Snapshot P L R S C → Type 0

@@ -59,6 +59,11 @@ pub record Tables (R S : Type 0) : Type 0 where
   pub candidates : List ℕ
   pub chosen : List ℕ
 
+-- the lent tables, in the order in which the calls take them
+abbrev pub lent : {R S : Type 0} → List S → List (Entry R) → List (Entry R) → List S → List Bool → List ℕ → List (Entry R) → List ℕ → List ℕ → Tables R S
+lent state own settled run accept ones heard could picks =
+    record { state = state; own = own; agreed = settled; run = run; accept = accept; yes = ones; heard = heard; candidates = could; chosen = picks }
+
 -- How long the lent tables are.
 pub record Sizes : Type 0 where
   pub state : ℕ

@@ -30,6 +30,14 @@ abbrev pub ByBit : Bool → Type 0 → Type 0 → Type 0
 ByBit true set clear = set
 ByBit false set clear = clear
 
+-- a place that is skipped keeps its very value, and any other holds what is wanted of it
+abbrev pub WrittenAt : {X : Type 0} → Bool → (X → Type 0) → List X → List X → ℕ → Type 0
+WrittenAt {X} skip wants before after p = ByBit skip (Kept before after p) ((d : X) → wants (slice_index_or after p d))
+
+-- so it is at every place below the bound
+abbrev pub Written : {X : Type 0} → ℕ → (ℕ → Bool) → (ℕ → X → Type 0) → List X → List X → Type 0
+Written bound skip wants before after = (p : ℕ) → p < bound → WrittenAt (skip p) (wants p) before after p
+
 -- bit j of the mask is the test's answer at j, and no bit from n on is set
 pub record MaskOf (n : ℕ) (test : ℕ → Bool) (mask : ℕ) : Type 0 where
   pub below : mask < 2 ^ n

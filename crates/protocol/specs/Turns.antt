@@ -47,6 +47,21 @@ abbrev pub command_of : {S C : Type 0} → (S → C) → Entry S → Entry C
 command_of commanded Missing = Missing
 command_of commanded (Present s) = Present (commanded s)
 
+-- the turn of i
+abbrev pub turn_at : ℕ → List Bool → List ℕ → ℕ → Turn
+turn_at sensors accept chosen i = turn_from sensors (i * sensors) accept (slice_index chosen i)
+
+-- what j disperses to i, of n replicas
+abbrev pub dispersal : {S : Type 0} → ℕ → ℕ → ℕ → List S → List Bool → List ℕ → List (Entry S) → ℕ → ℕ → Entry S
+dispersal n sensors marks run accept chosen states i j = disperses (bit marks j) (turn_at sensors accept chosen j) run (entry_at states (j * n + i))
+
+-- what j sends, of the states that are then held
+abbrev pub sending : {S C : Type 0} → (S → C) → ℕ → ℕ → List Bool → List ℕ → List S → List (Entry C) → ℕ → Entry C
+sending commanded sensors marks accept chosen held commands j =
+    sends (bit marks j) (turn_at sensors accept chosen j) (command_of commanded (value_at held j)) (entry_at commands j)
+
+-- ---- the same on a cluster's tables
+
 module _ {R S C : Type 0} (g : Config R S C) (before : Tables R S) where
   open g use {n, sensors, marks}
 

@@ -1,5 +1,5 @@
 use Rattle.cluster.specs.Writing.{faulty_at, AgreesOn}
-use Rattle.cluster.proofs.Sweep.{Swept}
+use Rattle.protocol.proofs.Sweep.{Swept}
 use Rattle.cluster.proofs.agree.write_agreed.Given as goal
 
 abbrev pub invariant-loop-p : goal.invariant-loop-p

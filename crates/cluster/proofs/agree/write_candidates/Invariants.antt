@@ -1,6 +1,6 @@
 use Rattle.quorum.specs.Counting.{bit}
 use Rattle.cluster.specs.Writing.{Could}
-use Rattle.cluster.proofs.Sweep.{Swept}
+use Rattle.protocol.proofs.Sweep.{Swept}
 use Rattle.cluster.proofs.agree.write_candidates.Given as goal
 
 abbrev pub invariant-loop-i : goal.invariant-loop-i

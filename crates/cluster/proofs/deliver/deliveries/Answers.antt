@@ -1,18 +1,9 @@
-use Rattle.std.proofs.Common.{◌≡◌, ℕ, ◌%◌, ◌<◌, Bool, List, get_or, set, ap, ◌∙◌, ap₂, arith, length-set, get_or-set_other, get_or-set_same, below_more}
-use Rattle.std.proofs.lemmas.Nat.{mul-le, div_below, mod_below}
+use Rattle.std.proofs.Common.{◌≡◌, ℕ, ◌<◌, get_or, set, ap, ◌∙◌, arith, length-set, get_or-set_other, get_or-set_same, below_more}
+use Rattle.std.proofs.lemmas.Nat.{mul-le}
 use Rattle.quorum.specs.Counting.{bit}
 use Rattle.layers.specs.Layers.{Sound}
-use Rattle.cluster.specs.Writing.{gets, instance_words}
+use Rattle.cluster.specs.Writing.{gets}
 use Rattle.cluster.proofs.deliver.deliveries.Goals as goal
-
-pub bit_of-requires : goal.bit_of-requires
-bit_of-requires g c = (omega arith, (omega arith, (mod_below c.loop-m.m c.args.n (omega arith), (div_below c.loop-m.m c.args.n c.args.sensors (omega arith) (omega arith), omega arith))))
-
-pub words_of-requires : goal.words_of-requires
-words_of-requires g c = (
-  omega (arith, c.size-size.ensures, g.met.L.Layer.bounded c.args.layer.now c.args.n c.args.f c.requires.0),
-  omega (arith, mul-le c.args.n c.args.sensors 16 4 (omega arith) (omega arith)),
-)
 
 pub bounds-table-m : goal.bounds-table-m
 bounds-table-m g c = omega (arith, mul-le c.args.n c.args.sensors 16 4 (omega arith) (omega arith))
@@ -26,9 +17,8 @@ loop-m-preserved g c =
     let lt : m < 64 = omega (arith, mul-le a.n a.sensors 16 4 (omega arith) (omega arith)) in (
       simp length-set c.loop-m.invariant.0,
       below_more
-          (λ q. (i : ℕ) → i < a.n → Sound a.marks i → bit (get_or (set c.loop-m.table m c.deliver.result) q 0) i ≡ gets delivered size a.n a.sensors a.marks a.accept.now a.words.now q i)
+          (λ q. (i : ℕ) → i < a.n → Sound a.marks i → bit (get_or (set c.loop-m.table m c.delivery.result) q 0) i ≡ gets delivered size a.n a.sensors a.marks a.accept.now a.words.now q i)
           m
-          (λ q h i l s. ap (λ (x : ℕ). bit x i) (get_or-set_other c.loop-m.table m q c.deliver.result 0 (omega arith)) ∙ c.loop-m.invariant.1 q h i l s)
-          (λ i l s. ap (λ (x : ℕ). bit x i) (get_or-set_same c.loop-m.table m c.deliver.result 0 (omega arith)) ∙ c.deliver.ensures i l s
-          ∙ ap₂ (λ (b : Bool) (ws : List ℕ). delivered (m % a.n) b ws i) c.bit_of.ensures (c.words_of.ensures ∙ ap (λ (r : ℕ). instance_words r a.words.now m) c.size-size.ensures)),
+          (λ q h i l s. ap (λ (x : ℕ). bit x i) (get_or-set_other c.loop-m.table m q c.delivery.result 0 (omega arith)) ∙ c.loop-m.invariant.1 q h i l s)
+          (λ i l s. ap (λ (x : ℕ). bit x i) (get_or-set_same c.loop-m.table m c.delivery.result 0 (omega arith)) ∙ c.delivery.ensures i l s),
     )

@@ -4,9 +4,9 @@ use Rattle.quorum.specs.Counting.{bit}
 use Rattle.cluster.specs.Writing.{got}
 use Rattle.cluster.proofs.Delivery.{got_of}
 use Rattle.cluster.proofs.Masks.{mask_as}
-use Rattle.cluster.proofs.Sweep.{swept_left, swept_wrote}
+use Rattle.protocol.proofs.Sweep.{swept_left, swept_wrote}
 use Rattle.cluster.proofs.deliver.write_yes.Goals as goal
-use Rattle.cluster.proofs.deliver.write_yes.Goals.{then-not-is_set, else-not-is_set}
+use Rattle.cluster.proofs.deliver.write_yes.Goals.{then-is_sound, else-is_sound}
 
 pub column-requires : goal.column-requires
 column-requires g c =
@@ -25,12 +25,12 @@ loop-p-preserved g c =
     let size = g.L.Layer.size a.layer.now n a.f in
     let i< : p / sensors < n = div_below p sensors n (omega arith) (omega arith) in
     let k< : p % sensors < sensors = mod_below p sensors (omega arith) in
-    elim c.if-not-is_set.branch [
-      | then-not-is_set w ↦
-          let fine : bit a.marks (p / sensors) ≡ false = sym w.if-not-is_set.ensures in
-          swept_wrote _ _ c.if-not-is_set.yes w.column.result w.yes-is (omega arith) fine
+    elim c.if-is_sound.branch [
+      | then-is_sound w ↦
+          let fine : bit a.marks (p / sensors) ≡ false = sym w.if-is_sound.ensures in
+          swept_wrote _ _ c.if-is_sound.yes w.column.result w.yes-is (omega arith) fine
           (mask_as n _ (got delivered size n sensors a.marks a.accept.now a.words.now (p / sensors) (p % sensors)) w.column.result
           (λ j h. c.deliveries-table.ensures (p % sensors * n + j) (p / sensors) (omega (arith, mul-add-lt (p % sensors) n j sensors k< h)) i< fine ∙ got_of delivered size n sensors a.marks a.accept.now a.words.now (p / sensors) (p % sensors) j h)
           w.column.ensures) c.loop-p.invariant
-      | else-not-is_set w ↦ swept_left _ _ c.if-not-is_set.yes w.yes-is (sym w.if-not-is_set.ensures) c.loop-p.invariant
+      | else-is_sound w ↦ swept_left _ _ c.if-is_sound.yes w.yes-is (sym w.if-is_sound.ensures) c.loop-p.invariant
     ]

@@ -2,9 +2,9 @@ use Rattle.std.proofs.Common.{◌/◌, ◌%◌, sym, ap, ◌∙◌, arith}
 use Rattle.std.proofs.lemmas.Nat.{div_below, mod_below}
 use Rattle.values.specs.declared.Entry.{Entry}
 use Rattle.cluster.specs.Writing.{accepts_own, heard_row}
-use Rattle.cluster.proofs.Sweep.{swept_left, swept_wrote}
+use Rattle.protocol.proofs.Sweep.{swept_left, swept_wrote}
 use Rattle.cluster.proofs.filter.write_accept.Goals as goal
-use Rattle.cluster.proofs.filter.write_accept.Goals.{then-not-is_set, else-not-is_set}
+use Rattle.cluster.proofs.filter.write_accept.Goals.{then-is_sound, else-is_sound}
 
 pub accepts-requires : goal.accepts-requires
 accepts-requires g c =
@@ -17,8 +17,8 @@ pub loop-p-preserved : goal.loop-p-preserved
 loop-p-preserved g c =
     let a = c.args in
     let p = c.loop-p.p in
-    elim c.if-not-is_set.branch [
-      | then-not-is_set w ↦ swept_wrote _ _ c.if-not-is_set.accept w.accepts.result w.accept-is (omega arith) (sym w.if-not-is_set.ensures)
+    elim c.if-is_sound.branch [
+      | then-is_sound w ↦ swept_wrote _ _ c.if-is_sound.accept w.accepts.result w.accept-is (omega arith) (sym w.if-is_sound.ensures)
           (w.accepts.ensures ∙ ap (λ (e : Entry g.row.R.Denot). accepts_own g.R.Value.alike a.n a.f e (heard_row a.n a.sensors a.heard.now (p / a.sensors) (p % a.sensors))) w.entry_at.ensures) c.loop-p.invariant
-      | else-not-is_set w ↦ swept_left _ _ c.if-not-is_set.accept w.accept-is (sym w.if-not-is_set.ensures) c.loop-p.invariant
+      | else-is_sound w ↦ swept_left _ _ c.if-is_sound.accept w.accept-is (sym w.if-is_sound.ensures) c.loop-p.invariant
     ]

@@ -1,5 +1,5 @@
 use Rattle.cluster.specs.Writing.{faulty_at, Accepts}
-use Rattle.cluster.proofs.Sweep.{Swept}
+use Rattle.protocol.proofs.Sweep.{Swept}
 use Rattle.cluster.proofs.filter.write_accept.Given as goal
 
 abbrev pub invariant-loop-p : goal.invariant-loop-p

@@ -1,9 +1,9 @@
 use Rattle.std.proofs.Common.{◌/◌, sym, arith}
 use Rattle.std.proofs.lemmas.Nat.{mod_below}
 use Rattle.cluster.proofs.Accepting.{hearer_below}
-use Rattle.cluster.proofs.Sweep.{swept_left, swept_wrote}
+use Rattle.protocol.proofs.Sweep.{swept_left, swept_wrote}
 use Rattle.cluster.proofs.filter.write_heard.Goals as goal
-use Rattle.cluster.proofs.filter.write_heard.Goals.{then-not-is_set, else-not-is_set}
+use Rattle.cluster.proofs.filter.write_heard.Goals.{then-is_sound, else-is_sound}
 
 pub hear-requires : goal.hear-requires
 hear-requires g c =
@@ -17,7 +17,7 @@ hear-requires g c =
 
 pub loop-p-preserved : goal.loop-p-preserved
 loop-p-preserved g c =
-    elim c.if-not-is_set.branch [
-      | then-not-is_set w ↦ swept_wrote _ _ c.if-not-is_set.heard w.hear.result w.heard-is (omega arith) (sym w.if-not-is_set.ensures) w.hear.ensures c.loop-p.invariant
-      | else-not-is_set w ↦ swept_left _ _ c.if-not-is_set.heard w.heard-is (sym w.if-not-is_set.ensures) c.loop-p.invariant
+    elim c.if-is_sound.branch [
+      | then-is_sound w ↦ swept_wrote _ _ c.if-is_sound.heard w.hear.result w.heard-is (omega arith) (sym w.if-is_sound.ensures) w.hear.ensures c.loop-p.invariant
+      | else-is_sound w ↦ swept_left _ _ c.if-is_sound.heard w.heard-is (sym w.if-is_sound.ensures) c.loop-p.invariant
     ]

@@ -1,5 +1,5 @@
 use Rattle.cluster.specs.Writing.{deaf_at, Hears}
-use Rattle.cluster.proofs.Sweep.{Swept}
+use Rattle.protocol.proofs.Sweep.{Swept}
 use Rattle.cluster.proofs.filter.write_heard.Given as goal
 
 abbrev pub invariant-loop-p : goal.invariant-loop-p

@@ -1,5 +1,5 @@
 use Rattle.cluster.specs.Writing.{idle_at, Runs}
-use Rattle.cluster.proofs.Sweep.{Swept}
+use Rattle.protocol.proofs.Sweep.{Swept}
 use Rattle.cluster.proofs.intake.write_run.Given as goal
 
 abbrev pub invariant-loop-p : goal.invariant-loop-p

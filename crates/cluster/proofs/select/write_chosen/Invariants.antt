@@ -1,6 +1,6 @@
 use Rattle.quorum.specs.Counting.{bit}
 use Rattle.cluster.specs.Writing.{Chooses}
-use Rattle.cluster.proofs.Sweep.{Swept}
+use Rattle.protocol.proofs.Sweep.{Swept}
 use Rattle.cluster.proofs.select.write_chosen.Given as goal
 
 abbrev pub invariant-loop-i : goal.invariant-loop-i

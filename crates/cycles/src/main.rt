@@ -1,0 +1,232 @@
+// Runs cycles of the whole engine over the phase king, for a tool that counts instructions from outside: `cycles 16 5 4 100` for 16 replicas, 5 of them faulty, 4 sensors and 100 cycles.
+#![tactic(auto)]
+
+ghost use Rattle.std.specs.Prelude.{◌*◌, ◌<◌, ◌≤◌};
+
+use anyhow::anyhow;
+use applications::wheel::{Count, Torque, Wheel};
+use autopilot::fly;
+use cluster::{Committed, Refused, Rest, Unmade};
+use layers::king::PhaseKing;
+use layers::layer::Layer;
+use selections::mid_value::MidValue;
+use std::alloc::{AllocError, Global};
+use std::env;
+use values::Entry;
+
+// The numbers of a run.
+#[derive(Clone, Copy)]
+struct Load {
+    n: usize,
+    f: usize,
+    sensors: usize,
+    cycles: usize,
+    ghost many: { n ≤ 16 },
+    ghost third: { 3 * f < n },
+    ghost sensed: { sensors ≤ 4 },
+}
+
+// The lent tables.
+#[derive(Drop)]
+struct Tray {
+    state: Vec<Count>,
+    own: Vec<Entry<Count>>,
+    agreed: Vec<Entry<Count>>,
+    run: Vec<Count>,
+    accept: Vec<bool>,
+    yes: Vec<u16>,
+    heard: Vec<Entry<Count>>,
+    candidates: Vec<u8>,
+    chosen: Vec<u8>,
+}
+
+impl Tray {
+    fn new(heap: Global, load: Load) -> Result<Tray, AllocError> {
+        let n = load.n;
+        let each = n * load.sensors;
+        let zero = Count { value: 0 };
+        Ok(Tray {
+            state: vec![in heap; zero; n]?,
+            own: vec![in heap; Entry::Missing; each]?,
+            agreed: vec![in heap; Entry::Missing; each]?,
+            run: vec![in heap; zero; each]?,
+            accept: vec![in heap; false; each]?,
+            yes: vec![in heap; 0u16; each]?,
+            heard: vec![in heap; Entry::Missing; n * each]?,
+            candidates: vec![in heap; 0u8; n]?,
+            chosen: vec![in heap; 0u8; n]?,
+        })
+    }
+}
+
+// What sensor k gives replica i: the last sensor is two-faced, and the others are steady.
+fn reading(load: Load, i: usize, k: usize) -> Count {
+    let value = if k >= load.sensors.saturating_sub(1) && i % 2 == 0 {
+        -65536
+    } else {
+        65536
+    };
+    Count { value }
+}
+
+// The sensors' entries, in the order of replicas and then of sensors.
+fn entries_of(heap: Global, load: Load) -> Result<Vec<Entry<Count>>, AllocError> {
+    let mut entries = Vec::new(heap);
+    for i in 0..load.n {
+        for k in 0..load.sensors {
+            entries.push(Entry::Present(reading(load, i, k)))?;
+        }
+    }
+    Ok(entries)
+}
+
+// Words that look random, of which about half say something.
+fn noise(heap: Global, size: usize) -> Result<Vec<u8>, AllocError> {
+    let mut words = Vec::new(heap);
+    let mut seed: u32 = 1;
+    for _ in 0..size {
+        seed = seed.wrapping_mul(1664525).wrapping_add(1013904223);
+        words.push((seed >> 29) as u8 / 2)?;
+    }
+    Ok(words)
+}
+
+// What faulty replicas say in a cycle.
+#[derive(Drop)]
+struct Said {
+    claims: Vec<Entry<Count>>,
+    words: Vec<u8>,
+    states: Vec<Entry<Count>>,
+    commands: Vec<Entry<Torque>>,
+}
+
+impl Said {
+    fn new(heap: Global, load: Load) -> Result<Said, AllocError> {
+        let n = load.n;
+        let lie = Entry::Present(Count { value: 7 });
+        let size = PhaseKing.size(n, load.f);
+        Ok(Said {
+            claims: vec![in heap; lie; n * (n * load.sensors)]?,
+            words: noise(heap, size.saturating_mul(n * load.sensors))?,
+            states: vec![in heap; lie; n * n]?,
+            commands: vec![in heap; Entry::Present(Torque { value: 7 }); n]?,
+        })
+    }
+}
+
+// Flies the cycles, and tells the last vote.
+fn run(
+    made: Rest<Wheel, PhaseKing>,
+    cycles: usize,
+    entries: &[Entry<Count>],
+    said: &Said,
+    tray: &mut Tray,
+) -> anyhow::Result<Entry<Torque>> {
+    let mut cluster = made;
+    let mut vote = Entry::Missing;
+    for _ in 0..cycles {
+        let flown = fly(
+            cluster,
+            &MidValue,
+            entries,
+            said.claims.as_slice(),
+            said.words.as_slice(),
+            said.states.as_slice(),
+            said.commands.as_slice(),
+            tray.state.as_mut_slice(),
+            tray.own.as_mut_slice(),
+            tray.agreed.as_mut_slice(),
+            tray.run.as_mut_slice(),
+            tray.accept.as_mut_slice(),
+            tray.yes.as_mut_slice(),
+            tray.heard.as_mut_slice(),
+            tray.candidates.as_mut_slice(),
+            tray.chosen.as_mut_slice(),
+        );
+        match flown {
+            Ok(committed) => {
+                let Committed {
+                    cluster: next,
+                    outcome,
+                } = committed;
+                cluster = next;
+                vote = outcome.vote;
+            }
+            Err(_) => return Err(anyhow!("a cycle was refused")),
+        }
+    }
+    Ok(vote)
+}
+
+// The numbers on the command line.
+fn load_of(rt: &HostRuntime) -> anyhow::Result<Load> {
+    let mut args = env::args(rt)?.skip(1);
+    let (Some(n), Some(f), Some(sensors), Some(cycles)) = (
+        args.next(),
+        args.next(),
+        args.next(),
+        args.next(),
+    ) else {
+        return Err(anyhow!("usage: cycles REPLICAS FAULTY SENSORS CYCLES"));
+    };
+    let n = n.as_str().parse::<usize>()?;
+    let f = f.as_str().parse::<usize>()?;
+    let sensors = sensors.as_str().parse::<usize>()?;
+    let cycles = cycles.as_str().parse::<usize>()?;
+    if n > 16 || f > 5 || 3 * f >= n || sensors > 4 {
+        return Err(anyhow!(
+            "at most 16 replicas, fewer than a third of them faulty, and 4 sensors"
+        ));
+    }
+    Ok(Load {
+        n,
+        f,
+        sensors,
+        cycles,
+    })
+}
+
+// A cluster whose last f replicas are faulty.
+fn made(load: Load, tray: &mut Tray) -> anyhow::Result<Rest<Wheel, PhaseKing>> {
+    let marks = (u16::MAX >> (16 - load.n)) & !(u16::MAX >> (16 - (load.n - load.f)));
+    let made = Rest::make(
+        Wheel,
+        PhaseKing,
+        load.n,
+        load.f,
+        load.sensors,
+        marks,
+        Count { value: 0 },
+        tray.state.as_mut_slice(),
+        tray.own.as_slice(),
+        tray.agreed.as_slice(),
+        tray.run.as_slice(),
+        tray.accept.as_slice(),
+        tray.yes.as_slice(),
+        tray.heard.as_slice(),
+        tray.candidates.as_slice(),
+        tray.chosen.as_slice(),
+    );
+    match made {
+        Ok(cluster) => Ok(cluster),
+        Err(_) => Err(anyhow!("making was refused")),
+    }
+}
+
+fn main(rt: HostRuntime) -> anyhow::Result<()> {
+    let load = load_of(&rt)?;
+    let heap = rt.alloc();
+    let mut tray = Tray::new(heap, load)?;
+    let entries = entries_of(heap, load)?;
+    let said = Said::new(heap, load)?;
+    let cluster = made(load, &mut tray)?;
+    let cycles = load.cycles;
+    match run(cluster, cycles, entries.as_slice(), &said, &mut tray)? {
+        Entry::Present(vote) => {
+            let torque = vote.value;
+            println!(rt; "{cycles} cycles, the last vote {torque}")?;
+        }
+        Entry::Missing => println!(rt; "{cycles} cycles, no vote")?,
+    }
+    Ok(())
+}

@@ -1,0 +1,77 @@
+-- Runs over a list of calls.
+use Rattle.std.proofs.Common.{◌≡◌, ℕ, ◌+◌, ◌<◌, ◌≤◌, Bool, true, false, cond, List, [], ◌∷◌, ◌++◌, length, get_or, take, sym, refl, ap, ◌∙◌, subst}
+use Rattle.std.proofs.lemmas.List.{take_more, take_all}
+use Rattle.protocol.specs.Setup.{Config, Rule, Tables, Sizes, sizes, Call as Asked, History, Stage, Answer as Answered, nothing}
+use Rattle.protocol.specs.Model.{in_turn, model}
+use Rattle.protocol.specs.Clusters.{Semantics, Cluster, Snapshot, config, Came, ConsistentAt, NeverPart, Throughout}
+use Rattle.protocol.proofs.Clusters.{throughout}
+use Rattle.protocol.proofs.Runs.{staged}
+use Rattle.cluster.specs.declared.Rest.{Rest}
+use Rattle.cluster.specs.Answers.{of_rest, here, Made}
+use Rattle.operation.specs.declared.AnyStage.{AnyStage}
+use Rattle.operation.specs.declared.AnyStage.TheVariants.{Rest as is_rest}
+use Rattle.operation.specs.declared.Answer.TheVariants.{Nothing}
+use Rattle.operation.specs.declared.Call.{Call}
+use Rattle.operation.specs.declared.Progress.{Progress}
+use Rattle.operation.specs.Calls.{stage_of, cluster_of, answer_of, standing, asked, onto, Goes, Performs, Operated}
+
+-- the stage by another term
+pub at_stage : {P L R S C : Type 0} (w : Semantics P L R S C) (call : Asked R S C) (t : Tables R S) {s s' : AnyStage P L} {last : Answered S C} {q' : Snapshot P L R S C} → s ≡ s'
+    → Goes w call (stage_of s') (here (cluster_of s') (stage_of s') t) last q' → Goes w call (stage_of s) (here (cluster_of s) (stage_of s) t) last q'
+at_stage {P} {L} w call t {last = last} {q' = q'} e k = subst (λ (x : AnyStage P L). Goes w call (stage_of x) (here (cluster_of x) (stage_of x) t) last q') (sym e) k
+
+module _ {R S C Z : Type 0} (g : Config R S C) (choice : Z → Rule R) (z : Sizes) where
+  -- the history with one call more, where that comes in its turn
+  abbrev pub with : Asked R S C → History R S C → History R S C
+  with c h = cond (in_turn c (model g h).stage) (c ∷ h) h
+
+  onto_last : (cs : List (Call R S C Z)) (k : Call R S C Z) (h : History R S C) → onto g choice z (cs ++ (k ∷ [])) h ≡ with (asked choice z k) (onto g choice z cs h)
+  onto_last [] k h = refl
+  onto_last (c ∷ cs) k h = onto_last cs k (with (asked choice z c) h)
+
+  -- one call more
+  pub onto_more : (cs : List (Call R S C Z)) (i : ℕ) (k : Call R S C Z) (h : History R S C) → i < length cs → k ≡ get_or cs i k → onto g choice z (take (i + 1) cs) h ≡ with (asked choice z k) (onto g choice z (take i cs) h)
+  onto_more cs i k h lt e = ap (λ x. onto g choice z x h) (take_more cs i k lt ∙ ap (λ x. take i cs ++ (x ∷ [])) (sym e)) ∙ onto_last (take i cs) k h
+
+-- a call goes on from where a run has come to
+pub goes_with : {P L R S C : Type 0} (w : Semantics P L R S C) (origin : Cluster P L) (start : S) (h : History R S C) (c : Asked R S C) (stage : Stage) (q : Answered S C → Snapshot P L R S C) (last : Answered S C) (q' : Snapshot P L R S C)
+    → (q last).moment.stage ≡ stage → Goes w c stage q last q' → Came w origin start h (q last)
+    → Came w origin start (cond (in_turn c (model (config w origin start) h).stage) (c ∷ h) h) q'
+goes_with {P} {L} {R} {S} {C} w origin start h c stage q last q' at goes came = by (in_turn c stage) refl where
+  g : Config R S C
+  g = config w origin start
+
+  by : (b : Bool) → in_turn c stage ≡ b → Came w origin start (cond (in_turn c (model g h).stage) (c ∷ h) h) q'
+  by true e =
+      let now : in_turn c (model g h).stage ≡ true = subst (λ (s : Stage). in_turn c s ≡ true) (sym at ∙ staged g came.run) e in
+      subst (λ (b : Bool). Came w origin start (cond b (c ∷ h) h) q') (sym now) (goes.on e origin start h last came).0
+  by false e =
+      let now : in_turn c (model g h).stage ≡ false = subst (λ (s : Stage). in_turn c s ≡ false) (sym at ∙ staged g came.run) e in
+      subst (λ (b : Bool). Came w origin start (cond b (c ∷ h) h) q') (sym now) (subst (λ (x : Snapshot P L R S C). Came w origin start h x) (sym (goes.over e)) came)
+
+module _ {P L R S C Z : Type 0} (w : Semantics P L R S C) (choice : Z → Rule R) (z : Sizes) (cs : List (Call R S C Z)) (i : ℕ) (origin : Cluster P L) (start : S) (h : History R S C) where
+  -- a run over i calls, and one call more
+  pub one_more : (k : Call R S C Z) (t t' : Tables R S) (from to : Progress P L S C) → i < length cs → k ≡ get_or cs i k → sizes t ≡ z
+      → Goes w (asked choice (sizes t) k) (stage_of from.stage) (here (cluster_of from.stage) (stage_of from.stage) t) (answer_of from.answer) (standing to t')
+      → Came w origin start (onto (config w origin start) choice z (take i cs) h) (standing from t) → Came w origin start (onto (config w origin start) choice z (take (i + 1) cs) h) (standing to t')
+  one_more k t t' from to lt is fit goes came =
+      let g = config w origin start in
+      let so_far = onto g choice z (take i cs) h in
+      subst (λ (x : History R S C). Came w origin start x (standing to t')) (ap (λ (y : Sizes). with g choice z (asked choice y k) so_far) fit ∙ sym (onto_more g choice z cs i k h lt is))
+      (goes_with w origin start so_far (asked choice (sizes t) k) (stage_of from.stage) (here (cluster_of from.stage) (stage_of from.stage) t) (answer_of from.answer) (standing to t') refl goes came)
+
+  -- a run over all of them
+  pub all_done : NeverPart w → (q : Snapshot P L R S C) → length cs ≤ i → Came w origin start (onto (config w origin start) choice z (take i cs) h) q
+      → Came w origin start (onto (config w origin start) choice z cs h) q × ConsistentAt w origin start (onto (config w origin start) choice z cs h) q × Throughout w origin start (onto (config w origin start) choice z cs h)
+  all_done never q le came =
+      let g = config w origin start in
+      let all : Came w origin start (onto g choice z cs h) q = subst (λ (x : List (Call R S C Z)). Came w origin start (onto g choice z x h) q) (take_all i cs le) came in
+      (all, never origin start (onto g choice z cs h) q all, throughout w never origin start (onto g choice z cs h) q all)
+
+-- made, and then the calls
+pub operated : {P L R S C Z : Type 0} (w : Semantics P L R S C) (choice : Z → Rule R) (given : Cluster P L) (start : S) (t t₁ t' : Tables R S) (cs : List (Call R S C Z)) (c : Rest P L) (r : Progress P L S C)
+    → Made w given start t t₁ (of_rest c) → Performs w choice (record { stage = is_rest c; answer = Nothing }) t₁ cs r t' → Operated w choice given start t cs r t'
+operated {R = R} {S = S} {C = C} w choice given start t t₁ t' cs c r made performs =
+    let P : Sizes → Type 0 = λ z. Came w given start (onto (config w given start) choice z cs []) (standing r t') × ConsistentAt w given start (onto (config w given start) choice z cs []) (standing r t') × Throughout {R = R} w given start (onto (config w given start) choice z cs []) in
+    let all = subst P made.sizes (performs given start [] (made.begins nothing).0) in
+    record { granted = made.asked; came = all.0; consistent = all.1; throughout = all.2 }

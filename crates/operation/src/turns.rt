@@ -1,0 +1,234 @@
+// One call on a cluster at each stage: a call out of turn is passed over.
+ghost use Rattle.protocol.specs.Setup.{lent, sizes, rest, taken_in, filtered, agreed as agreement, chosen as choice};
+ghost use Rattle.protocol.specs.Clusters.{semantics};
+ghost use Rattle.cluster.specs.Answers.{of_rest, of_taken_in, of_filtered, of_agreed, of_chosen, here};
+ghost use Rattle.operation.specs.Calls.{answer_of, asked, standing, Goes};
+
+use crate::{Answer, AnyStage, Call, Progress};
+use cluster::{Agreed, Chosen, Committed, Filtered, Refused, Rest, TakenIn};
+use layers::layer::Layer;
+use selections::Selection;
+use values::{Application, Entry, Value};
+
+// At rest: an intake or a look.
+pub(crate) fn at_rest<A: Application, L: Layer, Z: Selection<A::Reading>>(
+    cluster: Rest<A, L>,
+    last: Answer<A::State, A::Command>,
+    call: &Call<'_, A::Reading, A::State, A::Command, Z>,
+    state: &mut [A::State],
+    own: &mut [Entry<A::Reading>],
+    agreed: &mut [Entry<A::Reading>],
+    run: &mut [A::State],
+    accept: &mut [bool],
+    yes: &mut [u16],
+    heard: &mut [Entry<A::Reading>],
+    candidates: &mut [u8],
+    chosen: &mut [u8],
+) -> Progress<A, L, A::State, A::Command>
+    ensures { Goes (semantics A.Reading.Value A.State.Value A.Command.Value A.Application L.Layer) (asked Z.Selection.choice (sizes (lent state.old own.old agreed.old run.old accept.old yes.old heard.old candidates.old chosen.old)) call.now) rest
+        (here (of_rest cluster) rest (lent state.old own.old agreed.old run.old accept.old yes.old heard.old candidates.old chosen.old)) (answer_of last)
+        (standing result (lent state.new own.new agreed.new run.new accept.new yes.new heard.new candidates.new chosen.new)) }
+{
+    match call {
+        Call::Intake(entries) => match cluster.intake(
+            entries, state, own, agreed, run, accept, yes, heard, candidates, chosen,
+        ) {
+            Ok(next) => Progress {
+                stage: AnyStage::TakenIn(next),
+                answer: Answer::Nothing,
+            },
+            Err(Refused { cluster, refusal }) => Progress {
+                stage: AnyStage::Rest(cluster),
+                answer: Answer::Refused(refusal),
+            },
+        },
+        Call::Look(i) => match cluster.look(
+            *i, state, own, agreed, run, accept, yes, heard, candidates, chosen,
+        ) {
+            Ok(seen) => Progress {
+                stage: AnyStage::Rest(cluster),
+                answer: Answer::Told(seen),
+            },
+            Err(refusal) => Progress {
+                stage: AnyStage::Rest(cluster),
+                answer: Answer::Refused(refusal),
+            },
+        },
+        _ => Progress {
+            stage: AnyStage::Rest(cluster),
+            answer: last,
+        },
+    }
+}
+
+// Taken in: a filter, or the cycle is left.
+pub(crate) fn when_taken_in<A: Application, L: Layer, Z: Selection<A::Reading>>(
+    cluster: TakenIn<A, L>,
+    last: Answer<A::State, A::Command>,
+    call: &Call<'_, A::Reading, A::State, A::Command, Z>,
+    state: &mut [A::State],
+    own: &mut [Entry<A::Reading>],
+    agreed: &mut [Entry<A::Reading>],
+    run: &mut [A::State],
+    accept: &mut [bool],
+    yes: &mut [u16],
+    heard: &mut [Entry<A::Reading>],
+    candidates: &mut [u8],
+    chosen: &mut [u8],
+) -> Progress<A, L, A::State, A::Command>
+    ensures { Goes (semantics A.Reading.Value A.State.Value A.Command.Value A.Application L.Layer) (asked Z.Selection.choice (sizes (lent state.old own.old agreed.old run.old accept.old yes.old heard.old candidates.old chosen.old)) call.now) taken_in
+        (here (of_taken_in cluster) taken_in (lent state.old own.old agreed.old run.old accept.old yes.old heard.old candidates.old chosen.old)) (answer_of last)
+        (standing result (lent state.new own.new agreed.new run.new accept.new yes.new heard.new candidates.new chosen.new)) }
+{
+    match call {
+        Call::Filter(claims) => match cluster.filter(
+            claims, state, own, agreed, run, accept, yes, heard, candidates, chosen,
+        ) {
+            Ok(next) => Progress {
+                stage: AnyStage::Filtered(next),
+                answer: Answer::Nothing,
+            },
+            Err(Refused { cluster, refusal }) => Progress {
+                stage: AnyStage::TakenIn(cluster),
+                answer: Answer::Refused(refusal),
+            },
+        },
+        Call::Abandon => Progress {
+            stage: AnyStage::Rest(cluster.abandon()),
+            answer: Answer::Nothing,
+        },
+        _ => Progress {
+            stage: AnyStage::TakenIn(cluster),
+            answer: last,
+        },
+    }
+}
+
+// Filtered: an agree, or the cycle is left.
+pub(crate) fn when_filtered<A: Application, L: Layer, Z: Selection<A::Reading>>(
+    cluster: Filtered<A, L>,
+    last: Answer<A::State, A::Command>,
+    call: &Call<'_, A::Reading, A::State, A::Command, Z>,
+    state: &mut [A::State],
+    own: &mut [Entry<A::Reading>],
+    agreed: &mut [Entry<A::Reading>],
+    run: &mut [A::State],
+    accept: &mut [bool],
+    yes: &mut [u16],
+    heard: &mut [Entry<A::Reading>],
+    candidates: &mut [u8],
+    chosen: &mut [u8],
+) -> Progress<A, L, A::State, A::Command>
+    ensures { Goes (semantics A.Reading.Value A.State.Value A.Command.Value A.Application L.Layer) (asked Z.Selection.choice (sizes (lent state.old own.old agreed.old run.old accept.old yes.old heard.old candidates.old chosen.old)) call.now) filtered
+        (here (of_filtered cluster) filtered (lent state.old own.old agreed.old run.old accept.old yes.old heard.old candidates.old chosen.old)) (answer_of last)
+        (standing result (lent state.new own.new agreed.new run.new accept.new yes.new heard.new candidates.new chosen.new)) }
+{
+    match call {
+        Call::Agree(words) => match cluster.agree(
+            words, state, own, agreed, run, accept, yes, heard, candidates, chosen,
+        ) {
+            Ok(next) => Progress {
+                stage: AnyStage::Agreed(next),
+                answer: Answer::Nothing,
+            },
+            Err(Refused { cluster, refusal }) => Progress {
+                stage: AnyStage::Filtered(cluster),
+                answer: Answer::Refused(refusal),
+            },
+        },
+        Call::Abandon => Progress {
+            stage: AnyStage::Rest(cluster.abandon()),
+            answer: Answer::Nothing,
+        },
+        _ => Progress {
+            stage: AnyStage::Filtered(cluster),
+            answer: last,
+        },
+    }
+}
+
+// Agreed: a select, or the cycle is left.
+pub(crate) fn when_agreed<A: Application, L: Layer, Z: Selection<A::Reading>>(
+    cluster: Agreed<A, L>,
+    last: Answer<A::State, A::Command>,
+    call: &Call<'_, A::Reading, A::State, A::Command, Z>,
+    state: &mut [A::State],
+    own: &mut [Entry<A::Reading>],
+    agreed: &mut [Entry<A::Reading>],
+    run: &mut [A::State],
+    accept: &mut [bool],
+    yes: &mut [u16],
+    heard: &mut [Entry<A::Reading>],
+    candidates: &mut [u8],
+    chosen: &mut [u8],
+) -> Progress<A, L, A::State, A::Command>
+    ensures { Goes (semantics A.Reading.Value A.State.Value A.Command.Value A.Application L.Layer) (asked Z.Selection.choice (sizes (lent state.old own.old agreed.old run.old accept.old yes.old heard.old candidates.old chosen.old)) call.now) agreement
+        (here (of_agreed cluster) agreement (lent state.old own.old agreed.old run.old accept.old yes.old heard.old candidates.old chosen.old)) (answer_of last)
+        (standing result (lent state.new own.new agreed.new run.new accept.new yes.new heard.new candidates.new chosen.new)) }
+{
+    match call {
+        Call::Select(selection) => match cluster.select(
+            *selection, state, own, agreed, run, accept, yes, heard, candidates, chosen,
+        ) {
+            Ok(next) => Progress {
+                stage: AnyStage::Chosen(next),
+                answer: Answer::Nothing,
+            },
+            Err(Refused { cluster, refusal }) => Progress {
+                stage: AnyStage::Agreed(cluster),
+                answer: Answer::Refused(refusal),
+            },
+        },
+        Call::Abandon => Progress {
+            stage: AnyStage::Rest(cluster.abandon()),
+            answer: Answer::Nothing,
+        },
+        _ => Progress {
+            stage: AnyStage::Agreed(cluster),
+            answer: last,
+        },
+    }
+}
+
+// Chosen: a commit, or the cycle is left.
+pub(crate) fn when_chosen<A: Application, L: Layer, Z: Selection<A::Reading>>(
+    cluster: Chosen<A, L>,
+    last: Answer<A::State, A::Command>,
+    call: &Call<'_, A::Reading, A::State, A::Command, Z>,
+    state: &mut [A::State],
+    own: &mut [Entry<A::Reading>],
+    agreed: &mut [Entry<A::Reading>],
+    run: &mut [A::State],
+    accept: &mut [bool],
+    yes: &mut [u16],
+    heard: &mut [Entry<A::Reading>],
+    candidates: &mut [u8],
+    chosen: &mut [u8],
+) -> Progress<A, L, A::State, A::Command>
+    ensures { Goes (semantics A.Reading.Value A.State.Value A.Command.Value A.Application L.Layer) (asked Z.Selection.choice (sizes (lent state.old own.old agreed.old run.old accept.old yes.old heard.old candidates.old chosen.old)) call.now) choice
+        (here (of_chosen cluster) choice (lent state.old own.old agreed.old run.old accept.old yes.old heard.old candidates.old chosen.old)) (answer_of last)
+        (standing result (lent state.new own.new agreed.new run.new accept.new yes.new heard.new candidates.new chosen.new)) }
+{
+    match call {
+        Call::Commit(states, commands) => match cluster.commit(
+            states, commands, state, own, agreed, run, accept, yes, heard, candidates, chosen,
+        ) {
+            Ok(Committed { cluster, outcome }) => Progress {
+                stage: AnyStage::Rest(cluster),
+                answer: Answer::Committed(outcome),
+            },
+            Err(Refused { cluster, refusal }) => Progress {
+                stage: AnyStage::Chosen(cluster),
+                answer: Answer::Refused(refusal),
+            },
+        },
+        Call::Abandon => Progress {
+            stage: AnyStage::Rest(cluster.abandon()),
+            answer: Answer::Nothing,
+        },
+        _ => Progress {
+            stage: AnyStage::Chosen(cluster),
+            answer: last,
+        },
+    }
+}

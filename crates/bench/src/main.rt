@@ -1,7 +1,8 @@
+// Runs the phase king many times over, for a tool that counts instructions from outside: `bench 16 5` for 16 replicas, 5 faulty.
 #![tactic(auto)]
 
 ghost use Rattle.std.specs.Prelude.{◌*◌, ◌<◌, ◌≤◌};
-// Runs the phase king many times over, for a tool that counts instructions from outside: `bench 16 5` for 16 replicas, 5 faulty.
+
 use anyhow::anyhow;
 use layers::king::PhaseKing;
 use layers::layer::Layer;

@@ -56,9 +56,9 @@ fn write_agreed<R: Value>(
     heard: &[Entry<R>],
     agreed: &mut [Entry<R>],
 )
-    requires n_bound { (n ≤ 16) × ((1 ≤ sensors) × ((sensors ≤ 4) × (f ≤ n))) }
-    requires own_len { (length own.now ≡ n * sensors) × ((length accept.now ≡ n * sensors) × ((length yes.now ≡ n * sensors) × ((length heard.now ≡ n * n * sensors) × (length agreed.old ≡ n * sensors)))) }
-    requires by_index { (p : ℕ) → p < n * sensors → faulty_at marks sensors p ≡ false → slice_index yes.now p < 2 ^ n }
+    requires bounds { (n ≤ 16) × ((1 ≤ sensors) × ((sensors ≤ 4) × (f ≤ n))) }
+    requires lengths { (length own.now ≡ n * sensors) × ((length accept.now ≡ n * sensors) × ((length yes.now ≡ n * sensors) × ((length heard.now ≡ n * n * sensors) × (length agreed.old ≡ n * sensors)))) }
+    requires masks_fit { (p : ℕ) → p < n * sensors → faulty_at marks sensors p ≡ false → slice_index yes.now p < 2 ^ n }
     ensures { Written (n * sensors) (faulty_at marks sensors) (AgreesOn R.Value.means R.Value.alike n f sensors own.now accept.now yes.now heard.now) agreed.old agreed.new }
 {
     for p in 0..agreed.len() {

@@ -104,7 +104,7 @@ pub(crate) fn write_yes<L: Layer>(
     yes: &mut [u16],
 )
     requires sized { (Sized n f) × ((1 ≤ sensors) × (sensors ≤ 4)) }
-    requires accept_len { (length accept.now ≡ n * sensors) × (length yes.old ≡ n * sensors) }
+    requires lengths { (length accept.now ≡ n * sensors) × (length yes.old ≡ n * sensors) }
     ensures { Written (n * sensors) (faulty_at marks sensors) (Gets (L.Layer.delivered layer.now n f marks) (L.Layer.size layer.now n f) n sensors marks accept.now words.now) yes.old yes.new }
 {
     let table = deliveries(layer, n, f, sensors, marks, accept, words);

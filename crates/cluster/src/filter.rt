@@ -27,8 +27,8 @@ fn hear<R: Value>(
     own: &[Entry<R>],
     claims: &[Entry<R>],
 ) -> Entry<R>
-    requires n_bound { (n ≤ 16) × ((sensors ≤ 4) × ((i < n) × ((j < n) × (k < sensors)))) }
-    requires own_len { (length own.now ≡ n * sensors) × (length claims.now ≡ n * n * sensors) }
+    requires bounds { (n ≤ 16) × ((sensors ≤ 4) × ((i < n) × ((j < n) × (k < sensors)))) }
+    requires lengths { (length own.now ≡ n * sensors) × (length claims.now ≡ n * n * sensors) }
     ensures { result ≡ heard_from n sensors marks own.now claims.now i j k }
 {
     if is_set(marks, j) {
@@ -47,8 +47,8 @@ fn write_heard<R: Value>(
     claims: &[Entry<R>],
     heard: &mut [Entry<R>],
 )
-    requires le_n { (1 ≤ n) × ((n ≤ 16) × ((1 ≤ sensors) × (sensors ≤ 4))) }
-    requires own_len { (length own.now ≡ n * sensors) × ((length claims.now ≡ n * n * sensors) × (length heard.old ≡ n * n * sensors)) }
+    requires bounds { (1 ≤ n) × ((n ≤ 16) × ((1 ≤ sensors) × (sensors ≤ 4))) }
+    requires lengths { (length own.now ≡ n * sensors) × ((length claims.now ≡ n * n * sensors) × (length heard.old ≡ n * n * sensors)) }
     ensures { Written (n * n * sensors) (deaf_at n sensors marks) (Hears n sensors marks own.now claims.now) heard.old heard.new }
 {
     for p in 0..heard.len() {
@@ -89,8 +89,8 @@ fn write_accept<R: Value>(
     heard: &[Entry<R>],
     accept: &mut [bool],
 )
-    requires f_le_n { (f ≤ n) × ((n ≤ 16) × ((1 ≤ sensors) × (sensors ≤ 4))) }
-    requires own_len { (length own.now ≡ n * sensors) × ((length heard.now ≡ n * n * sensors) × (length accept.old ≡ n * sensors)) }
+    requires bounds { (f ≤ n) × ((n ≤ 16) × ((1 ≤ sensors) × (sensors ≤ 4))) }
+    requires lengths { (length own.now ≡ n * sensors) × ((length heard.now ≡ n * n * sensors) × (length accept.old ≡ n * sensors)) }
     ensures { Written (n * sensors) (faulty_at marks sensors) (Accepts R.Value.alike n f sensors own.now heard.now) accept.old accept.new }
 {
     for p in 0..accept.len() {

@@ -1,6 +1,6 @@
 // A row of what was heard, read by position and not copied.
 ghost use Rattle.std.specs.Prelude.{◌≡◌, ◌<◌, length};
-ghost use Rattle.values.specs.Entries.{matches as matchesIn};
+ghost use Rattle.values.specs.Entries.{matches as matches_in};
 ghost use Rattle.quorum.specs.Counting.{bit};
 ghost use Rattle.values.specs.Entries.{SameEntry};
 ghost use Rattle.values.specs.Majority.{majority as majority_of};
@@ -49,7 +49,7 @@ pub(crate) fn heard_matches<T: Value>(
     x: &T,
 ) -> usize
     requires { RowFits n sensors i k (length heard.now) }
-    ensures { result ≡ matchesIn T.Value.alike x.now n (heard_row n sensors heard.now i k) }
+    ensures { result ≡ matches_in T.Value.alike x.now n (heard_row n sensors heard.now i k) }
 {
     let row = Row {
         heard,

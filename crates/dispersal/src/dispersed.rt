@@ -60,7 +60,7 @@ pub(crate) fn dispersed_majority<'x, S: Value>(
     chosen: &'x [u8],
     states: &'x [Entry<S>],
 ) -> Entry<S>
-    requires to_lt_n { (to < parameters.n) × (length states.now ≡ parameters.n * parameters.n) }
+    requires receiver { (to < parameters.n) × (length states.now ≡ parameters.n * parameters.n) }
     requires run_len { length run.now ≡ parameters.n * parameters.sensors }
     requires accept_len { length accept.now ≡ parameters.n * parameters.sensors }
     requires chosen_len { length chosen.now ≡ parameters.n }

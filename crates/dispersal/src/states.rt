@@ -29,7 +29,7 @@ fn next_of<S: Value>(
     chosen: &[u8],
     states: &[Entry<S>],
 ) -> Next<S>
-    requires i_lt_n { (i < parameters.n) × (length states.now ≡ parameters.n * parameters.n) }
+    requires receiver { (i < parameters.n) × (length states.now ≡ parameters.n * parameters.n) }
     requires run_len { length run.now ≡ parameters.n * parameters.sensors }
     requires accept_len { length accept.now ≡ parameters.n * parameters.sensors }
     requires chosen_len { length chosen.now ≡ parameters.n }

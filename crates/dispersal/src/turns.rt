@@ -10,7 +10,7 @@ use selections::NO_SENSOR;
 
 // The turn of replica i.
 pub(crate) fn turn_of(parameters: Parameters, i: usize, accept: &[bool], chosen: &[u8]) -> Turn
-    requires i_lt_n { i < parameters.n }
+    requires replica { i < parameters.n }
     requires accept_len { length accept.now ≡ parameters.n * parameters.sensors }
     requires chosen_len { length chosen.now ≡ parameters.n }
     ensures is { result ≡ turn_at parameters.sensors accept.now chosen.now i }

@@ -8,7 +8,7 @@ use Rattle.questions.specs.Refusals.{number_of}
 use Rattle.cluster.specs.declared.Unmade.{Unmade}
 use Rattle.cluster.specs.Answers.{of_rest, of_taken_in, of_filtered, of_agreed, of_chosen, outcome_of, here, Declined}
 use Rattle.operation.specs.declared.AnyStage.{AnyStage}
-use Rattle.operation.specs.declared.AnyStage.TheVariants.{Rest as is_rest, TakenIn as isTakenIn, Filtered as isFiltered, Agreed as isAgreed, Chosen as isChosen}
+use Rattle.operation.specs.declared.AnyStage.TheVariants.{Rest as is_rest, TakenIn as is_taken_in, Filtered as is_filtered, Agreed as is_agreed, Chosen as is_chosen}
 use Rattle.operation.specs.declared.Call.{Call}
 use Rattle.operation.specs.declared.Call.TheVariants.{Intake, Filter, Agree, Select, Commit, Abandon, Look}
 use Rattle.operation.specs.declared.Answer.{Answer}
@@ -18,18 +18,18 @@ use Rattle.operation.specs.declared.Progress.{Progress}
 -- the stage at which a cluster stands
 abbrev pub stage_of : {P L : Type 0} → AnyStage P L → Stage
 stage_of (is_rest c) = rest
-stage_of (isTakenIn c) = taken_in
-stage_of (isFiltered c) = filtered
-stage_of (isAgreed c) = agreed
-stage_of (isChosen c) = chosen
+stage_of (is_taken_in c) = taken_in
+stage_of (is_filtered c) = filtered
+stage_of (is_agreed c) = agreed
+stage_of (is_chosen c) = chosen
 
 -- what it keeps for life
 abbrev pub cluster_of : {P L : Type 0} → AnyStage P L → Cluster P L
 cluster_of (is_rest c) = of_rest c
-cluster_of (isTakenIn c) = of_taken_in c
-cluster_of (isFiltered c) = of_filtered c
-cluster_of (isAgreed c) = of_agreed c
-cluster_of (isChosen c) = of_chosen c
+cluster_of (is_taken_in c) = of_taken_in c
+cluster_of (is_filtered c) = of_filtered c
+cluster_of (is_agreed c) = of_agreed c
+cluster_of (is_chosen c) = of_chosen c
 
 -- what the last call answered
 abbrev pub answer_of : {S C : Type 0} → Answer S C → Answered S C

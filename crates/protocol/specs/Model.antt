@@ -124,7 +124,7 @@ module _ {R S C : Type 0} (g : Config R S C) where
   -- every lent table has its size
   unfoldable pub tables_fit : Sizes → Bool
   tables_fit z =
-      (z.state == n) && z.own == n * sensors && z.agreed == n * sensors && z.run == n * sensors && z.accept == n * sensors
+      z.state == n && z.own == n * sensors && z.agreed == n * sensors && z.run == n * sensors && z.accept == n * sensors
       && z.yes == n * sensors && z.heard == n * n * sensors && z.candidates == n && z.chosen == n
 
   -- the questions of each call in their order

@@ -22,7 +22,7 @@ pub record Fits (n sensors : ℕ) (z : Sizes) : Type 0 where
 -- the same as a test
 abbrev pub fits : ℕ → ℕ → Sizes → Bool
 fits n sensors z =
-    (z.state == n) && z.own == n * sensors && z.agreed == n * sensors && z.run == n * sensors && z.accept == n * sensors
+    z.state == n && z.own == n * sensors && z.agreed == n * sensors && z.run == n * sensors && z.accept == n * sensors
     && z.yes == n * sensors && z.heard == n * n * sensors && z.candidates == n && z.chosen == n
 
 -- of a stage: the tables, and then what comes in

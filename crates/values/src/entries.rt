@@ -1,7 +1,7 @@
 // Entries read by position, wherever they lie, and their majority: written once, for readings, states and commands alike.
 ghost use Rattle.std.specs.Prelude.{◌≡◌, ℕ, ◌+◌, ◌^◌, ◌<◌, false, length};
 ghost use Rattle.values.specs.declared.Entry.{Entry};
-ghost use Rattle.values.specs.Entries.{SameEntry, entry_at, carries as carried, presence as presentIn, matches as matchesIn};
+ghost use Rattle.values.specs.Entries.{SameEntry, entry_at, carries as carried, presence as present_in, matches as matches_in};
 ghost use Rattle.values.specs.Majority.{Voted};
 ghost use Rattle.values.specs.Lead.{Weighed, Leads};
 
@@ -43,7 +43,7 @@ impl<'a, V: Value> Entries for &'a [Entry<V>] {
 
 // How many entries are present.
 pub fn presence<E: Entries>(entries: &E) -> usize
-    ensures { result ≡ presentIn (E.Entries.size entries.now) (E.Entries.entry entries.now) }
+    ensures { result ≡ present_in (E.Entries.size entries.now) (E.Entries.entry entries.now) }
 {
     let mut count = 0;
     for i in 0..entries.len() {
@@ -66,7 +66,7 @@ pub fn carries<V: Value>(e: &Entry<V>, x: &V) -> bool
 
 // How many entries carry the value x.
 pub fn matches<E: Entries>(entries: &E, x: &E::Item) -> usize
-    ensures { result ≡ matchesIn E.Item.Value.alike x.now (E.Entries.size entries.now) (E.Entries.entry entries.now) }
+    ensures { result ≡ matches_in E.Item.Value.alike x.now (E.Entries.size entries.now) (E.Entries.entry entries.now) }
 {
     let mut count = 0;
     for i in 0..entries.len() {

@@ -16,9 +16,9 @@ write_agreed-requires g c =
     let a = c.args in
     let p = a.self.parameters in
     let fit = granted_fits p.n p.sensors (sizes (lent a.state.now a.own.now a.agreed.now a.run.now a.accept.now a.yes.now a.heard.now a.candidates.now a.chosen.now)) _ true c.tables_fit-fit.ensures c.in_default.ensures in record {
-      n_bound = (omega arith, (omega arith, (omega arith, omega arith)));
-      own_len = (fit.own, (fit.accept, (c.write_yes.auto.yes ∙ fit.yes, (fit.heard, fit.agreed))));
-      by_index = yes_below (g.L.Layer.delivered a.self.layer p.n p.f p.marks) (g.L.Layer.size a.self.layer p.n p.f) _ _ _ a.accept.now a.words.now _ _ c.write_yes.ensures;
+      bounds = (omega arith, (omega arith, (omega arith, omega arith)));
+      lengths = (fit.own, (fit.accept, (c.write_yes.auto.yes ∙ fit.yes, (fit.heard, fit.agreed))));
+      masks_fit = yes_below (g.L.Layer.delivered a.self.layer p.n p.f p.marks) (g.L.Layer.size a.self.layer p.n p.f) _ _ _ a.accept.now a.words.now _ _ c.write_yes.ensures;
     }
 
 pub returns : goal.returns

@@ -13,7 +13,7 @@ agree_on-requires g c =
     let n = c.args.n in
     let sensors = c.args.sensors in
     let p = c.loop-p.p in
-    (omega arith, (c.requires.by_index p (omega arith) (sym c.if-is_sound.ensures), (omega arith, omega arith, div_below p sensors n (omega arith) (omega arith), mod_below p sensors (omega arith), omega arith)))
+    (omega arith, (c.requires.masks_fit p (omega arith) (sym c.if-is_sound.ensures), (omega arith, omega arith, div_below p sensors n (omega arith) (omega arith), mod_below p sensors (omega arith), omega arith)))
 
 pub loop-p-preserved : goal.loop-p-preserved
 loop-p-preserved g c =

@@ -11,8 +11,8 @@ hear-requires g c =
     let sensors = c.args.sensors in
     let p = c.loop-p.p in
     record {
-      n_bound = (omega arith, (omega arith, (hearer_below n sensors p (omega arith) (omega arith) (omega arith), (mod_below (p / sensors) n (omega arith), mod_below p sensors (omega arith)))));
-      own_len = (omega arith, omega arith);
+      bounds = (omega arith, (omega arith, (hearer_below n sensors p (omega arith) (omega arith) (omega arith), (mod_below (p / sensors) n (omega arith), mod_below p sensors (omega arith)))));
+      lengths = (omega arith, omega arith);
     }
 
 pub loop-p-preserved : goal.loop-p-preserved

@@ -1,8 +1,11 @@
 -- What a box's own sequence of calls gets.
-use Rattle.std.specs.Prelude.{ℕ, List, [], ◌∷◌, ◌++◌, Ok, Err, Result}
+use Rattle.std.specs.Prelude.{◌≡◌, ℕ, List, [], ◌∷◌, ◌++◌, Ok, Err, Result}
 use Rattle.values.specs.declared.Entry.{Entry}
-use Rattle.protocol.specs.Setup.{Rule, Tables, sizes, intake, filter, agree, select, commit, History, rest, agreed, Answer, nothing, outcome}
-use Rattle.protocol.specs.Clusters.{Semantics, Cluster, Snapshot, Came, ConsistentAt}
+use Rattle.protocol.specs.Setup.{Rule, Tables, sizes, Call, intake, filter, agree, select, commit, abandon, History, Stage, rest, agreed, Answer, nothing, refusal, outcome}
+use Rattle.protocol.specs.Model.{refused, verdict}
+use Rattle.protocol.specs.Clusters.{Semantics, Cluster, Snapshot, config, Came, ConsistentAt}
+use Rattle.questions.specs.Refusals.{number_of}
+use Rattle.questions.specs.declared.Refusal.{Refusal}
 use Rattle.cluster.specs.Answers.{of_rest, of_agreed, outcome_of, here}
 use Rattle.cluster.specs.declared.Agreed.{Agreed}
 use Rattle.cluster.specs.declared.Committed.{Committed}
@@ -13,25 +16,47 @@ use Rattle.cluster.specs.declared.Rest.{Rest}
 abbrev pub deciding : {R S C : Type 0} → List (Entry R) → List (Entry R) → List ℕ → Tables R S → History R S C
 deciding entries claims words t = agree (sizes t) words ∷ filter (sizes t) claims ∷ intake (sizes t) entries ∷ []
 
+-- the calls of a whole cycle, the latest first
+abbrev pub flying : {R S C : Type 0} → Rule R → List (Entry R) → List (Entry R) → List ℕ → List (Entry S) → List (Entry C) → Tables R S → History R S C
+flying rule entries claims words states commands t = commit (sizes t) states commands ∷ select (sizes t) rule ∷ deciding entries claims words t
+
 module _ {P L R S C : Type 0} (w : Semantics P L R S C) where
   -- Whatever run came to q goes on through these calls, the latest first, and sound replicas agree with the model.
   abbrev pub GoesOn : History R S C → (Answer S C → Snapshot P L R S C) → Snapshot P L R S C → Type 0
   GoesOn calls q q' = (origin : Cluster P L) (start : S) (h : History R S C) (last : Answer S C)
       → Came w origin start h (q last) → Came w origin start (calls ++ h) q' × ConsistentAt w origin start (calls ++ h) q'
 
-  -- The cycle was left: the cluster is at rest, and its run has gone on through some calls.
-  pub record Left (c : Rest P L) (t t' : Tables R S) (back : Rest P L) : Type 0 where
-    pub calls : History R S C
-    pub answer : Answer S C
-    pub goes : GoesOn calls (here (of_rest c) rest t) (here (of_rest back) rest t' answer)
+  -- All these calls were accepted: the run goes on through them, and the cluster keeps what it was made with.
+  pub record Through (calls : History R S C) (c : Rest P L) (t : Tables R S) (next : Cluster P L) (stage : Stage) (t' : Tables R S) (answer : Answer S C) : Type 0 where
+    pub kept : next ≡ of_rest c
+    pub goes : GoesOn calls (here (of_rest c) rest t) (here next stage t' answer)
+
+  -- the calls up to the refused one, and then the abandoning of a cycle that was open
+  abbrev pub left_by : Call R S C → History R S C → History R S C
+  left_by call [] = call ∷ []
+  left_by call (d ∷ done) = abandon ∷ call ∷ d ∷ done
+
+  -- what the last of them answers
+  abbrev pub left_with : History R S C → Refusal → Answer S C
+  left_with [] why = refusal (number_of why)
+  left_with (d ∷ done) why = nothing
+
+  -- One call of the cycle was refused, so the cycle was left: those before it were accepted, those after it not made, and the cluster is at rest with what it was made with.
+  pub record Left (cycle : History R S C) (c : Rest P L) (t t' : Tables R S) (back : Rest P L) (why : Refusal) : Type 0 where
+    pub unmade : History R S C
+    pub call : Call R S C
+    pub done : History R S C
+    pub parts : cycle ≡ unmade ++ (call ∷ done)
+    pub asked : (start : S) → verdict (config w (of_rest c) start) call ≡ refused (number_of why)
+    pub kept : of_rest back ≡ of_rest c
+    pub goes : GoesOn (left_by call done) (here (of_rest c) rest t) (here (of_rest back) rest t' (left_with done why))
 
   -- the candidates are agreed on, or the cycle is left
   abbrev pub Decides : Rest P L → List (Entry R) → List (Entry R) → List ℕ → Tables R S → Tables R S → Result (Agreed P L) (Refused (Rest P L)) → Type 0
-  Decides c entries claims words t t' (Ok next) = GoesOn (deciding entries claims words t) (here (of_rest c) rest t) (here (of_agreed next) agreed t' nothing)
-  Decides c entries claims words t t' (Err e) = Left c t t' e.cluster
+  Decides c entries claims words t t' (Ok next) = Through (deciding entries claims words t) c t (of_agreed next) agreed t' nothing
+  Decides c entries claims words t t' (Err e) = Left (deciding entries claims words t) c t t' e.cluster e.refusal
 
   -- the cycle is committed, or left
   abbrev pub Flies : Rest P L → Rule R → List (Entry R) → List (Entry R) → List ℕ → List (Entry S) → List (Entry C) → Tables R S → Tables R S → Result (Committed P L C) (Refused (Rest P L)) → Type 0
-  Flies c rule entries claims words states commands t t' (Ok done) =
-      GoesOn (commit (sizes t) states commands ∷ select (sizes t) rule ∷ deciding entries claims words t) (here (of_rest c) rest t) (here (of_rest done.cluster) rest t' (outcome (outcome_of done.outcome)))
-  Flies c rule entries claims words states commands t t' (Err e) = Left c t t' e.cluster
+  Flies c rule entries claims words states commands t t' (Ok done) = Through (flying rule entries claims words states commands t) c t (of_rest done.cluster) rest t' (outcome (outcome_of done.outcome))
+  Flies c rule entries claims words states commands t t' (Err e) = Left (flying rule entries claims words states commands t) c t t' e.cluster e.refusal

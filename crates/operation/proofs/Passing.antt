@@ -3,32 +3,55 @@ use Rattle.std.proofs.Common.{◌≡◌, ℕ, true, false, List, sym, refl, ap, 
 use Rattle.std.proofs.lemmas.Bool.{true≢false}
 use Rattle.values.specs.declared.Entry.{Entry}
 use Rattle.protocol.specs.Setup.{Rule, Tables, Sizes, Call as Asked, Stage, rest, taken_in, filtered, agreed, chosen, Answer, refusal}
-use Rattle.protocol.specs.Model.{in_turn}
-use Rattle.protocol.specs.Clusters.{Semantics, Cluster, Snapshot, Carries}
+use Rattle.protocol.specs.Model.{granted, refused, verdict, in_turn}
+use Rattle.protocol.specs.Clusters.{Semantics, Cluster, Snapshot, config, Carries}
 use Rattle.questions.specs.Refusals.{number_of}
 use Rattle.questions.specs.declared.Refusal.{Refusal}
-use Rattle.cluster.specs.Answers.{here, Rejected}
+use Rattle.cluster.specs.Answers.{here, Accepted, Rejected}
 use Rattle.operation.specs.declared.Call.{Call}
 use Rattle.operation.specs.declared.Call.TheVariants.{Intake, Filter, Agree, Select, Commit, Abandon, Look}
-use Rattle.operation.specs.Calls.{asked, Goes}
+use Rattle.operation.specs.Calls.{asked, Quiet, Goes}
+
+clash : (k : ℕ) → granted ≡ refused k → ⊥
+clash k h = cc
 
 -- a call in its turn, and the same by another term
-module _ {P L R S C : Type 0} (w : Semantics P L R S C) {call call' : Asked R S C} (same : call ≡ call') (stage : Stage) (turn : in_turn call' stage ≡ true) where
-  -- where it came to, by another term too
-  pub goes : {q : Answer S C → Snapshot P L R S C} {last : Answer S C} {q' q'' : Snapshot P L R S C} → q' ≡ q'' → Carries w call' q q'' → Goes w call stage q last q'
-  goes {q = q} d k = record {
-    on = λ e. subst₂ (λ (x : Asked R S C) (y : Snapshot P L R S C). Carries w x q y) (sym same) (sym d) k;
-    over = λ e. absurd (true≢false (sym turn ∙ ap (λ (x : Asked R S C). in_turn x stage) (sym same) ∙ e));
-  }
+module _ {P L R S C : Type 0} (w : Semantics P L R S C) {call call' : Asked R S C} (same : call ≡ call') {from : Stage} {t : Tables R S} {last : Answer S C} {q' : Snapshot P L R S C} (turn : in_turn call' from ≡ true) where
+  -- accepted, and where it came to by another term too
+  pub goes : {to : Stage} {c c' : Cluster P L} {t' : Tables R S} {answer : Answer S C} → Accepted w call' from to c t t' answer c' → Quiet call' answer → q' ≡ here c' to t' answer → Goes w call (here c from t last) q'
+  goes {to} {c} {c'} {t'} {answer} r quiet d =
+      let g : Goes w call' (here c from t last) (here c' to t' answer) = record {
+        accepted = λ e start v. (r, quiet);
+        refused = λ e start k v. absurd (clash k (sym (r.asked start) ∙ v));
+        on = λ e. r.carries;
+        over = λ e. absurd (true≢false (sym turn ∙ e));
+      } in
+      subst₂ (λ (x : Asked R S C) (y : Snapshot P L R S C). Goes w x (here c from t last) y) (sym same) (sym d) g
+
+  -- refused with the number of the first no
+  pub turned_down : {c : Cluster P L} (why : Refusal) → ((start : S) → verdict (config w c start) call' ≡ refused (number_of why)) → Carries w call' (here c from t) (here c from t (refusal (number_of why)))
+      → q' ≡ here c from t (refusal (number_of why)) → Goes w call (here c from t last) q'
+  turned_down {c} why asked carries d =
+      let g : Goes w call' (here c from t last) (here c from t (refusal (number_of why))) = record {
+        accepted = λ e start v. absurd (clash (number_of why) (sym v ∙ asked start));
+        refused = λ e start k v. let z : refused (number_of why) ≡ refused k = sym (asked start) ∙ v in let same_number : number_of why ≡ k = cc in ap (λ (n : ℕ). here c from t (refusal n)) same_number;
+        on = λ e. carries;
+        over = λ e. absurd (true≢false (sym turn ∙ e));
+      } in
+      subst₂ (λ (x : Asked R S C) (y : Snapshot P L R S C). Goes w x (here c from t last) y) (sym same) (sym d) g
 
   -- refused: the cluster came back, and the tables are as they were
-  pub comes_back : {X : Type 0} (of : X → Cluster P L) {t t' : Tables R S} {c back : X} {why : Refusal} {last : Answer S C} → Rejected w call' stage (of c) t t' c back why
-      → Goes w call stage (here (of c) stage t) last (here (of back) stage t' (refusal (number_of why)))
-  comes_back of {t} {why = why} r = goes (ap₂ (λ x u. here (of x) stage u (refusal (number_of why))) r.kept r.tables) (r.carries t)
+  pub comes_back : {X : Type 0} (of : X → Cluster P L) {t' : Tables R S} {c back : X} {why : Refusal} → Rejected w call' from (of c) t t' c back why → q' ≡ here (of back) from t' (refusal (number_of why)) → Goes w call (here (of c) from t last) q'
+  comes_back of {why = why} r d = turned_down why r.asked (r.carries t) (d ∙ ap₂ (λ x u. here (of x) from u (refusal (number_of why))) r.kept r.tables)
 
 -- out of turn: all is as it was
-pub passes : {P L R S C : Type 0} (w : Semantics P L R S C) (call : Asked R S C) (stage : Stage) → in_turn call stage ≡ false → (q : Answer S C → Snapshot P L R S C) (last : Answer S C) → Goes w call stage q last (q last)
-passes w call stage out q last = record { on = λ e. absurd (true≢false (sym e ∙ out)); over = λ e. refl }
+pub passes : {P L R S C : Type 0} (w : Semantics P L R S C) (call : Asked R S C) (q : Snapshot P L R S C) → in_turn call q.moment.stage ≡ false → Goes w call q q
+passes w call q out = record {
+  accepted = λ e. absurd (true≢false (sym e ∙ out));
+  refused = λ e. absurd (true≢false (sym e ∙ out));
+  on = λ e. absurd (true≢false (sym e ∙ out));
+  over = λ e. refl;
+}
 
 module _ {R S C Z : Type 0} (choice : Z → Rule R) (z : Sizes) where
   -- at each stage, every call but those of its turn

@@ -1,12 +1,13 @@
 -- Lists of calls, as the protocol has them.
-use Rattle.std.specs.Prelude.{◌≡◌, true, false, cond, List, [], ◌∷◌, Ok, Err, Result}
+use Rattle.std.specs.Prelude.{◌≡◌, ℕ, true, false, cond, List, [], ◌∷◌, Ok, Err, Result}
 use Rattle.protocol.specs.Setup.{Config, Rule, Tables, Sizes, sizes, Call as Asked, intake, filter, agree, select, commit, abandon, look, History, Stage, rest, taken_in, filtered, agreed, chosen, Answer as Answered, nothing, refusal, outcome, told}
 use Rattle.protocol.specs.Clusters.{Semantics, Cluster, Snapshot, config, Came, ConsistentAt, Throughout, Carries}
-use Rattle.protocol.specs.Model.{granted, in_turn, model}
+use Rattle.protocol.specs.Model.{granted, refused, verdict, in_turn, model}
+use Rattle.protocol.specs.Runs.{refusing}
 use Rattle.questions.specs.Questions.{make_verdict}
 use Rattle.questions.specs.Refusals.{number_of}
 use Rattle.cluster.specs.declared.Unmade.{Unmade}
-use Rattle.cluster.specs.Answers.{of_rest, of_taken_in, of_filtered, of_agreed, of_chosen, outcome_of, here, Declined}
+use Rattle.cluster.specs.Answers.{of_rest, of_taken_in, of_filtered, of_agreed, of_chosen, outcome_of, here, Made, Accepted, Declined}
 use Rattle.operation.specs.declared.AnyStage.{AnyStage}
 use Rattle.operation.specs.declared.AnyStage.TheVariants.{Rest as is_rest, TakenIn as is_taken_in, Filtered as is_filtered, Agreed as is_agreed, Chosen as is_chosen}
 use Rattle.operation.specs.declared.Call.{Call}
@@ -57,20 +58,48 @@ abbrev pub onto : {R S C Z : Type 0} → Config R S C → (Z → Rule R) → Siz
 onto g choice z [] h = h
 onto g choice z (c ∷ cs) h = onto g choice z cs (cond (in_turn (asked choice z c) (model g h).stage) (asked choice z c ∷ h) h)
 
--- A call in its turn carries the run on; one out of turn leaves all as it was after the last call.
-pub record Goes {P L R S C : Type 0} (w : Semantics P L R S C) (call : Asked R S C) (stage : Stage) (q : Answered S C → Snapshot P L R S C) (last : Answered S C) (q' : Snapshot P L R S C) : Type 0 where
-  pub on : in_turn call stage ≡ true → Carries w call q q'
-  pub over : in_turn call stage ≡ false → q' ≡ q last
+-- where only commit and look tell anything, the others answer nothing
+abbrev pub Quiet : {R S C : Type 0} → Asked R S C → Answered S C → Type 0
+Quiet (intake z es) answer = answer ≡ nothing
+Quiet (filter z cs) answer = answer ≡ nothing
+Quiet (agree z ws) answer = answer ≡ nothing
+Quiet (select z rule) answer = answer ≡ nothing
+Quiet (commit z ss cs) answer = Unit {0}
+Quiet abandon answer = answer ≡ nothing
+Quiet (look z i) answer = Unit {0}
 
--- Whatever run came to where the calls begin goes on through all that come in their turn, and at every moment of it sound replicas agree with the model.
-abbrev pub Performs : {P L R S C Z : Type 0} → Semantics P L R S C → (Z → Rule R) → Progress P L S C → Tables R S → List (Call R S C Z) → Progress P L S C → Tables R S → Type 0
-Performs {P} {L} {R} {S} {C} w choice from t calls r t' = (origin : Cluster P L) (start : S) (h : History R S C) → Came w origin start h (standing from t)
-    → Came w origin start (onto (config w origin start) choice (sizes t) calls h) (standing r t') × ConsistentAt w origin start (onto (config w origin start) choice (sizes t) calls h) (standing r t')
-    × Throughout w origin start (onto (config w origin start) choice (sizes t) calls h)
+-- One call of a list, from q to q'.
+pub record Goes {P L R S C : Type 0} (w : Semantics P L R S C) (call : Asked R S C) (q q' : Snapshot P L R S C) : Type 0 where
+  -- in its turn, and all its questions answered yes: what the call's record says
+  pub accepted : in_turn call q.moment.stage ≡ true → (start : S) → verdict (config w q.cluster start) call ≡ granted
+      → Accepted w call q.moment.stage q'.moment.stage q.cluster q.moment.tables q'.moment.tables q'.moment.answer q'.cluster × Quiet call q'.moment.answer
+  -- in its turn, and refused: the number of the first no is answered, and nothing else changes
+  pub refused : in_turn call q.moment.stage ≡ true → (start : S) (k : ℕ) → verdict (config w q.cluster start) call ≡ refused k → q' ≡ record { cluster = q.cluster; moment = refusing k q.moment }
+  -- in its turn, either way: whatever run came here goes on
+  pub on : in_turn call q.moment.stage ≡ true → Carries w call (here q.cluster q.moment.stage q.moment.tables) q'
+  -- out of its turn: nothing changes, not even the last answer
+  pub over : in_turn call q.moment.stage ≡ false → q' ≡ q
+
+-- The calls of a list one after another, from q to q'.
+abbrev pub Each : {P L R S C Z : Type 0} → Semantics P L R S C → (Z → Rule R) → Sizes → Snapshot P L R S C → List (Call R S C Z) → Snapshot P L R S C → Type 0
+Each w choice z q [] q' = q' ≡ q
+Each {P} {L} {R} {S} {C} w choice z q (c ∷ cs) q' = (m : Snapshot P L R S C) × Goes w (asked choice z c) q m × Each w choice z m cs q'
+
+-- The calls are performed in their order; and whatever run came to where they begin goes on through all that come in their turn, and at every moment of it sound replicas agree with the model.
+pub record Performs {P L R S C Z : Type 0} (w : Semantics P L R S C) (choice : Z → Rule R) (from : Progress P L S C) (t : Tables R S) (calls : List (Call R S C Z)) (r : Progress P L S C) (t' : Tables R S) : Type 0 where
+  pub each : Each w choice (sizes t) (standing from t) calls (standing r t')
+  pub runs : (origin : Cluster P L) (start : S) (h : History R S C) → Came w origin start h (standing from t)
+      → Came w origin start (onto (config w origin start) choice (sizes t) calls h) (standing r t') × ConsistentAt w origin start (onto (config w origin start) choice (sizes t) calls h) (standing r t')
+      × Throughout w origin start (onto (config w origin start) choice (sizes t) calls h)
 
 -- Made, and then the calls in their order: a run from making, and at every moment of it sound replicas agree with the model.
 pub record Operated {P L R S C Z : Type 0} (w : Semantics P L R S C) (choice : Z → Rule R) (given : Cluster P L) (start : S) (t : Tables R S) (calls : List (Call R S C Z)) (r : Progress P L S C) (t' : Tables R S) : Type 0 where
   pub granted : make_verdict given.n given.f given.sensors given.marks (sizes t) ≡ granted
+  -- making wrote the table of states alone
+  pub cluster : Cluster P L
+  pub state : List S
+  pub made : Made w given start t (record t { state = state }) cluster
+  pub each : Each w choice (sizes t) (here cluster rest (record t { state = state }) nothing) calls (standing r t')
   pub came : Came w given start (onto (config w given start) choice (sizes t) calls []) (standing r t')
   pub consistent : ConsistentAt w given start (onto (config w given start) choice (sizes t) calls []) (standing r t')
   pub throughout : Throughout w given start (onto (config w given start) choice (sizes t) calls [])

@@ -1,8 +1,7 @@
 // A list of calls, performed in its order.
 ghost use Rattle.protocol.specs.Setup.{lent, sizes};
 ghost use Rattle.protocol.specs.Clusters.{semantics};
-ghost use Rattle.cluster.specs.Answers.{here};
-ghost use Rattle.operation.specs.Calls.{stage_of, cluster_of, answer_of, asked, standing, Goes, Performs, OperateAnswers};
+ghost use Rattle.operation.specs.Calls.{asked, standing, Goes, Performs, OperateAnswers};
 
 use crate::turns::{at_rest, when_agreed, when_chosen, when_filtered, when_taken_in};
 use crate::{Answer, AnyStage, Call, Progress};
@@ -26,8 +25,8 @@ fn turn<A: Application, L: Layer, Z: Selection<A::Reading>>(
     candidates: &mut [u8],
     chosen: &mut [u8],
 ) -> Progress<A, L, A::State, A::Command>
-    ensures { Goes (semantics A.Reading.Value A.State.Value A.Command.Value A.Application L.Layer) (asked Z.Selection.choice (sizes (lent state.old own.old agreed.old run.old accept.old yes.old heard.old candidates.old chosen.old)) call.now) (stage_of from.stage)
-        (here (cluster_of from.stage) (stage_of from.stage) (lent state.old own.old agreed.old run.old accept.old yes.old heard.old candidates.old chosen.old)) (answer_of from.answer)
+    ensures { Goes (semantics A.Reading.Value A.State.Value A.Command.Value A.Application L.Layer) (asked Z.Selection.choice (sizes (lent state.old own.old agreed.old run.old accept.old yes.old heard.old candidates.old chosen.old)) call.now)
+        (standing from (lent state.old own.old agreed.old run.old accept.old yes.old heard.old candidates.old chosen.old))
         (standing result (lent state.new own.new agreed.new run.new accept.new yes.new heard.new candidates.new chosen.new)) }
 {
     let Progress { stage, answer } = from;

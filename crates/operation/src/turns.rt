@@ -25,8 +25,8 @@ pub(crate) fn at_rest<A: Application, L: Layer, Z: Selection<A::Reading>>(
     candidates: &mut [u8],
     chosen: &mut [u8],
 ) -> Progress<A, L, A::State, A::Command>
-    ensures { Goes (semantics A.Reading.Value A.State.Value A.Command.Value A.Application L.Layer) (asked Z.Selection.choice (sizes (lent state.old own.old agreed.old run.old accept.old yes.old heard.old candidates.old chosen.old)) call.now) rest
-        (here (of_rest cluster) rest (lent state.old own.old agreed.old run.old accept.old yes.old heard.old candidates.old chosen.old)) (answer_of last)
+    ensures { Goes (semantics A.Reading.Value A.State.Value A.Command.Value A.Application L.Layer) (asked Z.Selection.choice (sizes (lent state.old own.old agreed.old run.old accept.old yes.old heard.old candidates.old chosen.old)) call.now)
+        (here (of_rest cluster) rest (lent state.old own.old agreed.old run.old accept.old yes.old heard.old candidates.old chosen.old) (answer_of last))
         (standing result (lent state.new own.new agreed.new run.new accept.new yes.new heard.new candidates.new chosen.new)) }
 {
     match call {
@@ -76,8 +76,8 @@ pub(crate) fn when_taken_in<A: Application, L: Layer, Z: Selection<A::Reading>>(
     candidates: &mut [u8],
     chosen: &mut [u8],
 ) -> Progress<A, L, A::State, A::Command>
-    ensures { Goes (semantics A.Reading.Value A.State.Value A.Command.Value A.Application L.Layer) (asked Z.Selection.choice (sizes (lent state.old own.old agreed.old run.old accept.old yes.old heard.old candidates.old chosen.old)) call.now) taken_in
-        (here (of_taken_in cluster) taken_in (lent state.old own.old agreed.old run.old accept.old yes.old heard.old candidates.old chosen.old)) (answer_of last)
+    ensures { Goes (semantics A.Reading.Value A.State.Value A.Command.Value A.Application L.Layer) (asked Z.Selection.choice (sizes (lent state.old own.old agreed.old run.old accept.old yes.old heard.old candidates.old chosen.old)) call.now)
+        (here (of_taken_in cluster) taken_in (lent state.old own.old agreed.old run.old accept.old yes.old heard.old candidates.old chosen.old) (answer_of last))
         (standing result (lent state.new own.new agreed.new run.new accept.new yes.new heard.new candidates.new chosen.new)) }
 {
     match call {
@@ -119,8 +119,8 @@ pub(crate) fn when_filtered<A: Application, L: Layer, Z: Selection<A::Reading>>(
     candidates: &mut [u8],
     chosen: &mut [u8],
 ) -> Progress<A, L, A::State, A::Command>
-    ensures { Goes (semantics A.Reading.Value A.State.Value A.Command.Value A.Application L.Layer) (asked Z.Selection.choice (sizes (lent state.old own.old agreed.old run.old accept.old yes.old heard.old candidates.old chosen.old)) call.now) filtered
-        (here (of_filtered cluster) filtered (lent state.old own.old agreed.old run.old accept.old yes.old heard.old candidates.old chosen.old)) (answer_of last)
+    ensures { Goes (semantics A.Reading.Value A.State.Value A.Command.Value A.Application L.Layer) (asked Z.Selection.choice (sizes (lent state.old own.old agreed.old run.old accept.old yes.old heard.old candidates.old chosen.old)) call.now)
+        (here (of_filtered cluster) filtered (lent state.old own.old agreed.old run.old accept.old yes.old heard.old candidates.old chosen.old) (answer_of last))
         (standing result (lent state.new own.new agreed.new run.new accept.new yes.new heard.new candidates.new chosen.new)) }
 {
     match call {
@@ -162,8 +162,8 @@ pub(crate) fn when_agreed<A: Application, L: Layer, Z: Selection<A::Reading>>(
     candidates: &mut [u8],
     chosen: &mut [u8],
 ) -> Progress<A, L, A::State, A::Command>
-    ensures { Goes (semantics A.Reading.Value A.State.Value A.Command.Value A.Application L.Layer) (asked Z.Selection.choice (sizes (lent state.old own.old agreed.old run.old accept.old yes.old heard.old candidates.old chosen.old)) call.now) agreement
-        (here (of_agreed cluster) agreement (lent state.old own.old agreed.old run.old accept.old yes.old heard.old candidates.old chosen.old)) (answer_of last)
+    ensures { Goes (semantics A.Reading.Value A.State.Value A.Command.Value A.Application L.Layer) (asked Z.Selection.choice (sizes (lent state.old own.old agreed.old run.old accept.old yes.old heard.old candidates.old chosen.old)) call.now)
+        (here (of_agreed cluster) agreement (lent state.old own.old agreed.old run.old accept.old yes.old heard.old candidates.old chosen.old) (answer_of last))
         (standing result (lent state.new own.new agreed.new run.new accept.new yes.new heard.new candidates.new chosen.new)) }
 {
     match call {
@@ -205,8 +205,8 @@ pub(crate) fn when_chosen<A: Application, L: Layer, Z: Selection<A::Reading>>(
     candidates: &mut [u8],
     chosen: &mut [u8],
 ) -> Progress<A, L, A::State, A::Command>
-    ensures { Goes (semantics A.Reading.Value A.State.Value A.Command.Value A.Application L.Layer) (asked Z.Selection.choice (sizes (lent state.old own.old agreed.old run.old accept.old yes.old heard.old candidates.old chosen.old)) call.now) choice
-        (here (of_chosen cluster) choice (lent state.old own.old agreed.old run.old accept.old yes.old heard.old candidates.old chosen.old)) (answer_of last)
+    ensures { Goes (semantics A.Reading.Value A.State.Value A.Command.Value A.Application L.Layer) (asked Z.Selection.choice (sizes (lent state.old own.old agreed.old run.old accept.old yes.old heard.old candidates.old chosen.old)) call.now)
+        (here (of_chosen cluster) choice (lent state.old own.old agreed.old run.old accept.old yes.old heard.old candidates.old chosen.old) (answer_of last))
         (standing result (lent state.new own.new agreed.new run.new accept.new yes.new heard.new candidates.new chosen.new)) }
 {
     match call {

@@ -1,5 +1,4 @@
 use Rattle.std.proofs.Common.{refl, ap}
-use Rattle.protocol.specs.Setup.{agreed}
 use Rattle.protocol.specs.Model.{in_turn}
 use Rattle.cluster.specs.Answers.{of_agreed}
 use Rattle.operation.specs.Calls.{asked}
@@ -8,16 +7,16 @@ use Rattle.operation.proofs.turns.when_agreed.Goals as goal
 
 pub returns-in-Ok : goal.returns-in-Ok
 unfolding in_turn
-returns-in-Ok g c = goes _ (ap (asked g.Z.Selection.choice _) c.in-Select.is) agreed refl refl c.in-Ok.ensures.carries
+returns-in-Ok g c = goes _ (ap (asked g.Z.Selection.choice _) c.in-Select.is) refl c.in-Ok.ensures refl refl
 
 pub returns-in-Err : goal.returns-in-Err
 unfolding in_turn
-returns-in-Err g c = comes_back _ (ap (asked g.Z.Selection.choice _) c.in-Select.is) agreed refl of_agreed c.in-Err.ensures
+returns-in-Err g c = comes_back _ (ap (asked g.Z.Selection.choice _) c.in-Select.is) refl of_agreed c.in-Err.ensures refl
 
 pub returns-in-Abandon : goal.returns-in-Abandon
 unfolding in_turn
-returns-in-Abandon g c = goes _ (ap (asked g.Z.Selection.choice _) c.in-Abandon.is) agreed refl refl (c.abandon.ensures _).carries
+returns-in-Abandon g c = goes _ (ap (asked g.Z.Selection.choice _) c.in-Abandon.is) refl (c.abandon.ensures _) refl refl
 
 pub returns-in_default : goal.returns-in_default
 unfolding in_turn
-returns-in_default g c = passes _ _ agreed (out_at_agreed g.Z.Selection.choice _ c.args.call.now c.in_default.not-Select c.in_default.not-Abandon) _ _
+returns-in_default g c = passes _ _ _ (out_at_agreed g.Z.Selection.choice _ c.args.call.now c.in_default.not-Select c.in_default.not-Abandon)

@@ -6,7 +6,7 @@ use Rattle.protocol.specs.Model.{refused, verdict}
 use Rattle.protocol.specs.Clusters.{Semantics, Cluster, Snapshot, config, Came, ConsistentAt}
 use Rattle.questions.specs.Refusals.{number_of}
 use Rattle.questions.specs.declared.Refusal.{Refusal}
-use Rattle.cluster.specs.Answers.{of_rest, of_agreed, outcome_of, here}
+use Rattle.cluster.specs.Answers.{of_rest, of_agreed, outcome_of, here, Accepted}
 use Rattle.cluster.specs.declared.Agreed.{Agreed}
 use Rattle.cluster.specs.declared.Committed.{Committed}
 use Rattle.cluster.specs.declared.Refused.{Refused}
@@ -26,9 +26,16 @@ module _ {P L R S C : Type 0} (w : Semantics P L R S C) where
   GoesOn calls q q' = (origin : Cluster P L) (start : S) (h : History R S C) (last : Answer S C)
       → Came w origin start h (q last) → Came w origin start (calls ++ h) q' × ConsistentAt w origin start (calls ++ h) q'
 
-  -- All these calls were accepted: the run goes on through them, and the cluster keeps what it was made with.
+  -- All these calls, the latest first, were accepted one after another, from q to q', each doing what its record says.
+  pub data Done : History R S C → Snapshot P L R S C → Snapshot P L R S C → Type 0 where
+    begun : {q : Snapshot P L R S C} → Done [] q q
+    followed : {calls : History R S C} {call : Call R S C} {q : Snapshot P L R S C} {from to : Stage} {c c' : Cluster P L} {t t' : Tables R S} {last answer : Answer S C}
+        → Done calls q (here c from t last) → Accepted w call from to c t t' answer c' → Done (call ∷ calls) q (here c' to t' answer)
+
+  -- All these calls were accepted: the cluster keeps what it was made with, and the run goes on through them.
   pub record Through (calls : History R S C) (c : Rest P L) (t : Tables R S) (next : Cluster P L) (stage : Stage) (t' : Tables R S) (answer : Answer S C) : Type 0 where
     pub kept : next ≡ of_rest c
+    pub each : (last : Answer S C) → Done calls (here (of_rest c) rest t last) (here next stage t' answer)
     pub goes : GoesOn calls (here (of_rest c) rest t) (here next stage t' answer)
 
   -- the calls up to the refused one, and then the abandoning of a cycle that was open
@@ -47,6 +54,9 @@ module _ {P L R S C : Type 0} (w : Semantics P L R S C) where
     pub call : Call R S C
     pub done : History R S C
     pub parts : cycle ≡ unmade ++ (call ∷ done)
+    -- those before it were accepted, and what they left in the tables stands
+    pub stage : Stage
+    pub each : (last : Answer S C) → (answer : Answer S C) × Done done (here (of_rest c) rest t last) (here (of_rest c) stage t' answer)
     pub asked : (start : S) → verdict (config w (of_rest c) start) call ≡ refused (number_of why)
     pub kept : of_rest back ≡ of_rest c
     pub goes : GoesOn (left_by call done) (here (of_rest c) rest t) (here (of_rest back) rest t' (left_with done why))

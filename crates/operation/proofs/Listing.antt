@@ -9,7 +9,7 @@ use Rattle.protocol.proofs.Runs.{staged}
 use Rattle.cluster.specs.declared.Rest.{Rest}
 use Rattle.cluster.specs.Answers.{of_rest, here, Made}
 use Rattle.operation.specs.declared.AnyStage.{AnyStage}
-use Rattle.operation.specs.declared.AnyStage.TheVariants.{Rest as is_rest}
+use Rattle.operation.specs.declared.AnyStage.TheVariants.{Rest as AtRest}
 use Rattle.operation.specs.declared.Answer.TheVariants.{Nothing}
 use Rattle.operation.specs.declared.Call.{Call}
 use Rattle.operation.specs.declared.Progress.{Progress}
@@ -85,7 +85,7 @@ all_done {P} {L} {R} {S} {C} {Z} w choice from t cs i r t' never le each came = 
 
 -- made, and then the calls
 pub operated : {P L R S C Z : Type 0} (w : Semantics P L R S C) (choice : Z → Rule R) (given : Cluster P L) (start : S) (t : Tables R S) (state : List S) (t' : Tables R S) (cs : List (Call R S C Z)) (c : Rest P L) (r : Progress P L S C)
-    → Made w given start t (record t { state = state }) (of_rest c) → Performs w choice (record { stage = is_rest c; answer = Nothing }) (record t { state = state }) cs r t' → Operated w choice given start t cs r t'
+    → Made w given start t (record t { state = state }) (of_rest c) → Performs w choice (record { stage = AtRest c; answer = Nothing }) (record t { state = state }) cs r t' → Operated w choice given start t cs r t'
 operated {P} {L} {R} {S} {C} {Z} w choice given start t state t' cs c r made performs =
     let t₁ : Tables R S = record t { state = state } in
     let q : Snapshot P L R S C = here (of_rest c) rest t₁ nothing in

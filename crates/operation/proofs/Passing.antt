@@ -3,17 +3,15 @@ use Rattle.std.proofs.Common.{◌≡◌, ℕ, true, false, List, sym, refl, ap, 
 use Rattle.std.proofs.lemmas.Bool.{true≢false}
 use Rattle.values.specs.declared.Entry.{Entry}
 use Rattle.protocol.specs.Setup.{Rule, Tables, Sizes, Call as Asked, Stage, rest, taken_in, filtered, agreed, chosen, Answer, refusal}
-use Rattle.protocol.specs.Model.{granted, refused, verdict, in_turn}
+use Rattle.protocol.specs.Model.{refused, verdict, in_turn}
 use Rattle.protocol.specs.Clusters.{Semantics, Cluster, Snapshot, config, Carries}
+use Rattle.questions.proofs.Fitting.{granted≢refused}
 use Rattle.questions.specs.Refusals.{number_of}
 use Rattle.questions.specs.declared.Refusal.{Refusal}
 use Rattle.cluster.specs.Answers.{here, Accepted, Rejected}
 use Rattle.operation.specs.declared.Call.{Call}
 use Rattle.operation.specs.declared.Call.TheVariants.{Intake, Filter, Agree, Select, Commit, Abandon, Look}
 use Rattle.operation.specs.Calls.{asked, Quiet, Goes}
-
-clash : (k : ℕ) → granted ≡ refused k → ⊥
-clash k h = cc
 
 -- a call in its turn, and the same by another term
 module _ {P L R S C : Type 0} (w : Semantics P L R S C) {call call' : Asked R S C} (same : call ≡ call') {from : Stage} {t : Tables R S} {last : Answer S C} {q' : Snapshot P L R S C} (turn : in_turn call' from ≡ true) where
@@ -22,7 +20,7 @@ module _ {P L R S C : Type 0} (w : Semantics P L R S C) {call call' : Asked R S 
   goes {to} {c} {c'} {t'} {answer} r quiet d =
       let g : Goes w call' (here c from t last) (here c' to t' answer) = record {
         accepted = λ e start v. (r, quiet);
-        refused = λ e start k v. absurd (clash k (sym (r.asked start) ∙ v));
+        refused = λ e start k v. absurd (granted≢refused k (sym (r.asked start) ∙ v));
         on = λ e. r.carries;
         over = λ e. absurd (true≢false (sym turn ∙ e));
       } in
@@ -33,7 +31,7 @@ module _ {P L R S C : Type 0} (w : Semantics P L R S C) {call call' : Asked R S 
       → q' ≡ here c from t (refusal (number_of why)) → Goes w call (here c from t last) q'
   turned_down {c} why asked carries d =
       let g : Goes w call' (here c from t last) (here c from t (refusal (number_of why))) = record {
-        accepted = λ e start v. absurd (clash (number_of why) (sym v ∙ asked start));
+        accepted = λ e start v. absurd (granted≢refused (number_of why) (sym v ∙ asked start));
         refused = λ e start k v. let z : refused (number_of why) ≡ refused k = sym (asked start) ∙ v in let same_number : number_of why ≡ k = cc in ap (λ (n : ℕ). here c from t (refusal n)) same_number;
         on = λ e. carries;
         over = λ e. absurd (true≢false (sym turn ∙ e));

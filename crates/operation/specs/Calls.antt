@@ -9,7 +9,7 @@ use Rattle.questions.specs.Refusals.{number_of}
 use Rattle.cluster.specs.declared.Unmade.{Unmade}
 use Rattle.cluster.specs.Answers.{of_rest, of_taken_in, of_filtered, of_agreed, of_chosen, outcome_of, here, Made, Accepted, Declined}
 use Rattle.operation.specs.declared.AnyStage.{AnyStage}
-use Rattle.operation.specs.declared.AnyStage.TheVariants.{Rest as is_rest, TakenIn as is_taken_in, Filtered as is_filtered, Agreed as is_agreed, Chosen as is_chosen}
+use Rattle.operation.specs.declared.AnyStage.TheVariants.{Rest as AtRest, TakenIn as AtTakenIn, Filtered as AtFiltered, Agreed as AtAgreed, Chosen as AtChosen}
 use Rattle.operation.specs.declared.Call.{Call}
 use Rattle.operation.specs.declared.Call.TheVariants.{Intake, Filter, Agree, Select, Commit, Abandon, Look}
 use Rattle.operation.specs.declared.Answer.{Answer}
@@ -18,19 +18,19 @@ use Rattle.operation.specs.declared.Progress.{Progress}
 
 -- the stage at which a cluster stands
 abbrev pub stage_of : {P L : Type 0} → AnyStage P L → Stage
-stage_of (is_rest c) = rest
-stage_of (is_taken_in c) = taken_in
-stage_of (is_filtered c) = filtered
-stage_of (is_agreed c) = agreed
-stage_of (is_chosen c) = chosen
+stage_of (AtRest c) = rest
+stage_of (AtTakenIn c) = taken_in
+stage_of (AtFiltered c) = filtered
+stage_of (AtAgreed c) = agreed
+stage_of (AtChosen c) = chosen
 
 -- what it keeps for life
 abbrev pub cluster_of : {P L : Type 0} → AnyStage P L → Cluster P L
-cluster_of (is_rest c) = of_rest c
-cluster_of (is_taken_in c) = of_taken_in c
-cluster_of (is_filtered c) = of_filtered c
-cluster_of (is_agreed c) = of_agreed c
-cluster_of (is_chosen c) = of_chosen c
+cluster_of (AtRest c) = of_rest c
+cluster_of (AtTakenIn c) = of_taken_in c
+cluster_of (AtFiltered c) = of_filtered c
+cluster_of (AtAgreed c) = of_agreed c
+cluster_of (AtChosen c) = of_chosen c
 
 -- what the last call answered
 abbrev pub answer_of : {S C : Type 0} → Answer S C → Answered S C
@@ -58,7 +58,7 @@ abbrev pub onto : {R S C Z : Type 0} → Config R S C → (Z → Rule R) → Siz
 onto g choice z [] h = h
 onto g choice z (c ∷ cs) h = onto g choice z cs (cond (in_turn (asked choice z c) (model g h).stage) (asked choice z c ∷ h) h)
 
--- where only commit and look tell anything, the others answer nothing
+-- only commit and look tell anything: the others, accepted, answer nothing
 abbrev pub Quiet : {R S C : Type 0} → Asked R S C → Answered S C → Type 0
 Quiet (intake z es) answer = answer ≡ nothing
 Quiet (filter z cs) answer = answer ≡ nothing

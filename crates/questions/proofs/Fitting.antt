@@ -1,5 +1,5 @@
 -- From the test on the sizes of tables to each size, and to the verdicts.
-use Rattle.std.proofs.Common.{◌≡◌, ℕ, ◌*◌, ◌<◌, Bool, true, false, not, ◌&&◌, eqb, ltb, List, length, sym, refl, ap, ◌∙◌, ap₂, arith, ltb-true}
+use Rattle.std.proofs.Common.{◌≡◌, ℕ, ◌*◌, ◌<◌, Bool, true, false, not, ◌&&◌, eqb, ltb, List, length, sym, refl, ap, ◌∙◌, ap₂, ltb-true}
 use Rattle.quorum.specs.Counting.{bit}
 use Rattle.std.proofs.lemmas.Bool.{and_parts, eqb-true}
 use Rattle.values.specs.declared.Entry.{Entry}
@@ -69,8 +69,8 @@ stage_told v fit fit' input e h = ap (λ (b : Bool). stage_verdict b input) (sym
 pub look_told : (v : Verdict) (fit fit' : Bool) (n marks i : ℕ) → fit ≡ fit' → v ≡ look_verdict fit n marks i → look_verdict fit' n marks i ≡ v
 look_told v fit fit' n marks i e h = ap (λ (b : Bool). look_verdict b n marks i) (sym e) ∙ sym h
 
-granted≢refused : (k : ℕ) → granted ≡ refused k → ⊥
-granted≢refused k h = let z : ◌≡◌ {A = ℕ} 0 1 = cc in omega arith
+pub granted≢refused : (k : ℕ) → granted ≡ refused k → ⊥
+granted≢refused k h = cc
 
 granted_fit : (fit input : Bool) → granted ≡ stage_verdict fit input → fit ≡ true
 granted_fit true input h = refl

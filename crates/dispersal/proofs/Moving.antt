@@ -2,7 +2,7 @@
 use Rattle.std.proofs.Common.{◌≡◌, ℕ, ◌+◌, ◌<◌, ◌≤◌, Bool, true, false, cond, not, List, length, sym, refl, ap, ◌∙◌, subst, arith}
 use mir.Val.{bool_byte}
 use Rattle.quorum.specs.Counting.{count}
-use Rattle.quorum.proofs.Counts.{one, count_zero, count_more}
+use Rattle.quorum.proofs.Counts.{one, one_le, count_zero, count_more}
 use Rattle.values.specs.Entries.{present, SameEntry}
 use Rattle.values.specs.declared.Entry.{Entry}
 use Rattle.values.specs.declared.Entry.TheVariants.{Present, Missing}
@@ -13,10 +13,6 @@ use Rattle.dispersal.specs.declared.states.Next.{Next}
 use Rattle.dispersal.specs.declared.states.Next.TheVariants.{Stays, Runs, Takes}
 use Rattle.protocol.proofs.Holding.{Holds, holds}
 use Rattle.protocol.proofs.Sweep.{Swept, swept_none, swept_left, swept_wrote}
-
-one_le : (b : Bool) → one b ≤ 1
-one_le true = omega arith
-one_le false = omega arith
 
 -- what a flag is as a number
 byte : (b : Bool) → one b ≡ bool_byte b

@@ -37,7 +37,7 @@ bool_same false b f g = sym (is_no b g)
 abbrev pub one : Bool → ℕ
 one b = cond b 1 0
 
-one_le : (a : Bool) → one a ≤ 1
+pub one_le : (a : Bool) → one a ≤ 1
 one_le true = omega arith
 one_le false = omega arith
 

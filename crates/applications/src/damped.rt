@@ -1,17 +1,16 @@
 // The damped program: a reading draws the level a quarter of the way to itself, and the thrust pushes back.
-ghost use Rattle.std.specs.Prelude.{◌≡◌, ◌<◌, T, ◌==◌, Float};
+ghost use Rattle.std.specs.Prelude.{◌≡◌, T, ◌==◌, Float};
 ghost use Rattle.std.specs.Float.Ieee.{eq, le};
 ghost use Rattle.applications.specs.declared.damped.Thrust.{Thrust};
-ghost use Rattle.values.specs.declared.Entry.TheVariants.{Present, Missing};
-ghost use Rattle.applications.specs.Levels.{in_range, unsigned, held, stepped as steps};
-ghost use Rattle.applications.specs.Steps.{level_of};
-ghost use Rattle.applications.specs.Thrusts.{code_of, thrust_of};
+ghost use Rattle.applications.specs.Levels.{unsigned, held, stepped as steps};
+ghost use Rattle.applications.specs.Steps.{level_of, Qualifies};
+ghost use Rattle.applications.specs.Thrusts.{code_of, thrust_of, Decodes};
 ghost use Rattle.std.proofs.Common.{rules};
 ghost use Rattle.applications.specs.LevelLaws.{holds, level_eq, level_same_eq, level_number, level_same_le};
 ghost use Rattle.applications.specs.FloatOrder.{le_total, le_trans};
 
 use crate::level::Level;
-use values::{Application, Entry, Ordered, Value};
+use values::{Application, Ordered, Value};
 
 // A minus zero equals zero, so zero alone stands for both.
 fn settle(x: f64) -> f64
@@ -34,21 +33,29 @@ fn hold(x: f64) -> f64
 }
 
 impl Level {
-    // A NaN and the infinities are out of range too, so the two tests refuse them.
-    pub fn from_f64(x: f64) -> Entry<Level>
-        ensures { elim result [ Present v ↦ T (in_range x) × (v.value ≡ unsigned x) | Missing ↦ T (in_range x) → ⊥ ] }
-    {
-        if -1000000.0 <= x && x <= 1000000.0 {
-            Entry::Present(Level { value: settle(x) })
-        } else {
-            Entry::Missing
-        }
-    }
-
     pub fn number(&self) -> f64
         ensures { result ≡ self.now.value }
     {
         self.value
+    }
+}
+
+// A number that is no level.
+#[derive(Clone, Copy, PartialEq, Eq, Debug)]
+pub struct OutOfRange;
+
+impl TryFrom<f64> for Level {
+    type Error = OutOfRange;
+
+    ghost try_from_gives = { Qualifies };
+
+    // A NaN and the infinities are out of range too, so the two tests refuse them.
+    fn try_from(x: f64) -> Result<Level, OutOfRange> {
+        if -1000000.0 <= x && x <= 1000000.0 {
+            Ok(Level { value: settle(x) })
+        } else {
+            Err(OutOfRange)
+        }
     }
 }
 
@@ -90,21 +97,29 @@ pub enum Thrust {
     Neg = 2,
 }
 
-impl Thrust {
-    pub fn code(&self) -> u8
-        ensures { result ≡ code_of self.now }
-    {
-        *self as u8
-    }
+// A number that stands for no thrust.
+#[derive(Clone, Copy, PartialEq, Eq, Debug)]
+pub struct UnknownThrust(pub u8);
 
-    pub fn from_code(code: u8) -> Entry<Thrust>
-        ensures { elim result [ Present t ↦ code_of t ≡ code | Missing ↦ 2 < code ] }
-    {
+impl From<Thrust> for u8 {
+    ghost from_gives = { λ t r. r ≡ code_of t };
+
+    fn from(thrust: Thrust) -> u8 {
+        thrust as u8
+    }
+}
+
+impl TryFrom<u8> for Thrust {
+    type Error = UnknownThrust;
+
+    ghost try_from_gives = { Decodes };
+
+    fn try_from(code: u8) -> Result<Thrust, UnknownThrust> {
         match code {
-            0 => Entry::Present(Thrust::Off),
-            1 => Entry::Present(Thrust::Pos),
-            2 => Entry::Present(Thrust::Neg),
-            _ => Entry::Missing,
+            0 => Ok(Thrust::Off),
+            1 => Ok(Thrust::Pos),
+            2 => Ok(Thrust::Neg),
+            _ => Err(UnknownThrust(code)),
         }
     }
 }

@@ -7,7 +7,7 @@ ghost use Rattle.std.proofs.Common.{rules};
 use values::{Application, Ordered, Value};
 
 // A reading or a state.
-#[derive(Clone, Copy)]
+#[derive(Clone, Copy, PartialEq, Eq, PartialOrd, Ord, Debug)]
 pub struct Count {
     pub value: i32,
 }
@@ -26,7 +26,7 @@ impl Value for Count {
         ensures answer { result ≡ same_count self.now other.now }
         ensures equal { T result → self.now ≡ other.now }
     {
-        self.value == other.value
+        *self == *other
     }
 }
 
@@ -40,12 +40,12 @@ impl Ordered for Count {
     ghost congruent = { Prim.search rules };
 
     fn at_most(&self, other: &Count) -> bool {
-        self.value <= other.value
+        *self <= *other
     }
 }
 
 // The command.
-#[derive(Clone, Copy)]
+#[derive(Clone, Copy, PartialEq, Eq, PartialOrd, Ord, Debug)]
 pub struct Torque {
     pub value: i16,
 }
@@ -63,7 +63,7 @@ impl Value for Torque {
         ensures answer { result ≡ same_torque self.now other.now }
         ensures equal { T result → self.now ≡ other.now }
     {
-        other.value == self.value
+        *other == *self
     }
 }
 
@@ -93,12 +93,8 @@ impl Application for Wheel {
 
     fn command(&self, state: &Count) -> Torque {
         let torque = -(state.value / 65536);
-        if torque > 32767 {
-            Torque { value: 32767 }
-        } else {
-            Torque {
-                value: torque as i16,
-            }
+        Torque {
+            value: torque.min(32767) as i16,
         }
     }
 }

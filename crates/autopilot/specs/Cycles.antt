@@ -1,6 +1,5 @@
 -- What a box's own sequence of calls gets.
-use Rattle.std.specs.Prelude.{◌≡◌, ℕ, List, [], ◌∷◌, ◌++◌, Ok, Err, Result}
-use Rattle.values.specs.declared.Entry.{Entry}
+use Rattle.std.specs.Prelude.{◌≡◌, ℕ, List, [], ◌∷◌, ◌++◌, Ok, Err, Result, Option}
 use Rattle.protocol.specs.Setup.{Rule, Tables, sizes, Call, intake, filter, agree, select, commit, abandon, History, Stage, rest, agreed, Answer, nothing, refusal, outcome}
 use Rattle.protocol.specs.Model.{refused, verdict}
 use Rattle.protocol.specs.Clusters.{Semantics, Cluster, Snapshot, config, Came, ConsistentAt}
@@ -13,11 +12,11 @@ use Rattle.cluster.specs.declared.Refused.{Refused}
 use Rattle.cluster.specs.declared.Rest.{Rest}
 
 -- the calls from intake to agree, the latest first
-abbrev pub deciding : {R S C : Type 0} → List (Entry R) → List (Entry R) → List ℕ → Tables R S → History R S C
+abbrev pub deciding : {R S C : Type 0} → List (Option R) → List (Option R) → List ℕ → Tables R S → History R S C
 deciding entries claims words t = agree (sizes t) words ∷ filter (sizes t) claims ∷ intake (sizes t) entries ∷ []
 
 -- the calls of a whole cycle, the latest first
-abbrev pub flying : {R S C : Type 0} → Rule R → List (Entry R) → List (Entry R) → List ℕ → List (Entry S) → List (Entry C) → Tables R S → History R S C
+abbrev pub flying : {R S C : Type 0} → Rule R → List (Option R) → List (Option R) → List ℕ → List (Option S) → List (Option C) → Tables R S → History R S C
 flying rule entries claims words states commands t = commit (sizes t) states commands ∷ select (sizes t) rule ∷ deciding entries claims words t
 
 module _ {P L R S C : Type 0} (w : Semantics P L R S C) where
@@ -62,11 +61,11 @@ module _ {P L R S C : Type 0} (w : Semantics P L R S C) where
     pub goes : GoesOn (left_by call done) (here (of_rest c) rest t) (here (of_rest back) rest t' (left_with done why))
 
   -- the candidates are agreed on, or the cycle is left
-  abbrev pub Decides : Rest P L → List (Entry R) → List (Entry R) → List ℕ → Tables R S → Tables R S → Result (Agreed P L) (Refused (Rest P L)) → Type 0
+  abbrev pub Decides : Rest P L → List (Option R) → List (Option R) → List ℕ → Tables R S → Tables R S → Result (Agreed P L) (Refused (Rest P L)) → Type 0
   Decides c entries claims words t t' (Ok next) = Through (deciding entries claims words t) c t (of_agreed next) agreed t' nothing
   Decides c entries claims words t t' (Err e) = Left (deciding entries claims words t) c t t' e.cluster e.refusal
 
   -- the cycle is committed, or left
-  abbrev pub Flies : Rest P L → Rule R → List (Entry R) → List (Entry R) → List ℕ → List (Entry S) → List (Entry C) → Tables R S → Tables R S → Result (Committed P L C) (Refused (Rest P L)) → Type 0
+  abbrev pub Flies : Rest P L → Rule R → List (Option R) → List (Option R) → List ℕ → List (Option S) → List (Option C) → Tables R S → Tables R S → Result (Committed P L C) (Refused (Rest P L)) → Type 0
   Flies c rule entries claims words states commands t t' (Ok done) = Through (flying rule entries claims words states commands t) c t (of_rest done.cluster) rest t' (outcome (outcome_of done.outcome))
   Flies c rule entries claims words states commands t t' (Err e) = Left (flying rule entries claims words states commands t) c t t' e.cluster e.refusal

@@ -1,11 +1,9 @@
 -- What agree writes, and what its record says of each place.
-use Rattle.std.proofs.Common.{◌≡◌, ℕ, ◌+◌, ◌*◌, ◌/◌, ◌%◌, ◌^◌, ◌<◌, Bool, true, false, List, get_or, subst, ap₂}
+use Rattle.std.proofs.Common.{◌≡◌, ℕ, ◌+◌, ◌*◌, ◌/◌, ◌%◌, ◌^◌, ◌<◌, Bool, true, false, List, get_or, subst, ap₂, Option, None}
 use Rattle.std.proofs.lemmas.Nat.{div-mul-add, mod-mul-add}
 use Rattle.std.proofs.lemmas.Bool.{true≢false}
 use Rattle.quorum.specs.Counting.{bit}
 use Rattle.values.specs.Entries.{present, entry_at, SameEntry}
-use Rattle.values.specs.declared.Entry.{Entry}
-use Rattle.values.specs.declared.Entry.TheVariants.{Missing}
 use Rattle.protocol.specs.Tables.{Kept, ByBit, MaskOf, WrittenAt, Written}
 use Rattle.cluster.specs.Writing.{faulty_at, heard_row, Delivers, bit_of, instance_words, gets, got, Gets, agrees_on, AgreesOn, Could}
 use Rattle.protocol.proofs.Sweep.{placed}
@@ -32,18 +30,18 @@ module _ (delivered : Delivers) (size n sensors marks : ℕ) (accept : List Bool
   pub yes_below : (p : ℕ) → p < n * sensors → faulty_at marks sensors p ≡ false → get_or after p 0 < 2 ^ n
   yes_below p h e = small (faulty_at marks sensors p) (got delivered size n sensors marks accept words (p / sensors) (p % sensors)) p e (w p h)
 
-pub agreed_placed : {R M : Type 0} (means : R → M) (alike : R → R → Bool) (n f sensors marks : ℕ) (own : List (Entry R)) (accept : List Bool) (masks : List ℕ) (heard before after : List (Entry R))
+pub agreed_placed : {R M : Type 0} (means : R → M) (alike : R → R → Bool) (n f sensors marks : ℕ) (own : List (Option R)) (accept : List Bool) (masks : List ℕ) (heard before after : List (Option R))
     → Written (n * sensors) (faulty_at marks sensors) (AgreesOn means alike n f sensors own accept masks heard) before after → (i k : ℕ) → i < n → k < sensors
     → ByBit (bit marks i) (Kept before after (i * sensors + k)) (SameEntry means (entry_at after (i * sensors + k)) (agrees_on alike n f (bit (get_or masks (i * sensors + k) 0)) (get_or accept (i * sensors + k) false) (entry_at own (i * sensors + k)) (heard_row n sensors heard i k)))
 agreed_placed {R} means alike n f sensors marks own accept masks heard before after w i k hi hk =
     let p : ℕ = i * sensors + k in
-    let to : ℕ → ℕ → Entry R = λ x y. agrees_on alike n f (bit (get_or masks p 0)) (get_or accept p false) (entry_at own p) (heard_row n sensors heard x y) in
+    let to : ℕ → ℕ → Option R = λ x y. agrees_on alike n f (bit (get_or masks p 0)) (get_or accept p false) (entry_at own p) (heard_row n sensors heard x y) in
     let A : ℕ → Type 0 = λ x. WrittenAt (bit marks x) (λ v. SameEntry means v (to x (p % sensors))) before after p in
     let B : ℕ → Type 0 = λ x. WrittenAt (bit marks i) (λ v. SameEntry means v (to i x)) before after p in
-    placed (λ v. SameEntry means v (to i k)) (SameEntry means (entry_at after p) (to i k)) before after p (bit marks i) (λ _ h. h Missing)
+    placed (λ v. SameEntry means v (to i k)) (SameEntry means (entry_at after p) (to i k)) before after p (bit marks i) (λ _ h. h None)
     (subst B (mod-mul-add i sensors k hk) (subst A (div-mul-add i sensors k hk) (w p (within n sensors i k hi hk))))
 
-pub candidates_placed : {R : Type 0} (n sensors marks : ℕ) (agreed : List (Entry R)) (before after : List ℕ) → Written n (bit marks) (Could sensors agreed) before after
+pub candidates_placed : {R : Type 0} (n sensors marks : ℕ) (agreed : List (Option R)) (before after : List ℕ) → Written n (bit marks) (Could sensors agreed) before after
     → (i : ℕ) → i < n → ByBit (bit marks i) (Kept before after i) (MaskOf sensors (λ k. present (entry_at agreed (i * sensors + k))) (get_or after i 0))
 candidates_placed n sensors marks agreed before after w i hi =
     placed (Could sensors agreed i) (Could sensors agreed i (get_or after i 0)) before after i (bit marks i) (λ _ h. h 0) (w i hi)

@@ -1,6 +1,5 @@
 -- What each call promises: a record where it is accepted, and one where it is refused.
-use Rattle.std.specs.Prelude.{◌≡◌, ℕ, true, List, [], Ok, Err, Result}
-use Rattle.values.specs.declared.Entry.{Entry}
+use Rattle.std.specs.Prelude.{◌≡◌, ℕ, true, List, [], Ok, Err, Result, Option}
 use Rattle.protocol.specs.Setup.{Rule, Tables, sizes, Call, intake, filter, agree, select, commit, abandon, look, Stage, rest, taken_in, filtered, agreed, chosen, Outcome as Answered, Answer, nothing, refusal, outcome, told, Moment}
 use Rattle.protocol.specs.Model.{granted, refused, tables_fit, verdict}
 use Rattle.protocol.specs.Calls.{Makes}
@@ -96,12 +95,12 @@ module _ {P L R S C : Type 0} (w : Semantics P L R S C) where
   MakeAnswers given start t t' (Err e) = Declined given t t' e.app e.layer e.refusal
 
   -- what intake answers
-  abbrev pub IntakeAnswers : Rest P L → List (Entry R) → Tables R S → Tables R S → Result (TakenIn P L) (Refused (Rest P L)) → Type 0
+  abbrev pub IntakeAnswers : Rest P L → List (Option R) → Tables R S → Tables R S → Result (TakenIn P L) (Refused (Rest P L)) → Type 0
   IntakeAnswers c entries t t' (Ok next) = Accepted (intake (sizes t) entries) rest taken_in (of_rest c) t t' nothing (of_taken_in next)
   IntakeAnswers c entries t t' (Err e) = Rejected (intake (sizes t) entries) rest (of_rest c) t t' c e.cluster e.refusal
 
   -- what filter answers
-  abbrev pub FilterAnswers : TakenIn P L → List (Entry R) → Tables R S → Tables R S → Result (Filtered P L) (Refused (TakenIn P L)) → Type 0
+  abbrev pub FilterAnswers : TakenIn P L → List (Option R) → Tables R S → Tables R S → Result (Filtered P L) (Refused (TakenIn P L)) → Type 0
   FilterAnswers c claims t t' (Ok next) = Accepted (filter (sizes t) claims) taken_in filtered (of_taken_in c) t t' nothing (of_filtered next)
   FilterAnswers c claims t t' (Err e) = Rejected (filter (sizes t) claims) taken_in (of_taken_in c) t t' c e.cluster e.refusal
 
@@ -116,7 +115,7 @@ module _ {P L R S C : Type 0} (w : Semantics P L R S C) where
   SelectAnswers c rule t t' (Err e) = Rejected (select (sizes t) rule) agreed (of_agreed c) t t' c e.cluster e.refusal
 
   -- what commit answers
-  abbrev pub CommitAnswers : Chosen P L → List (Entry S) → List (Entry C) → Tables R S → Tables R S → Result (Committed P L C) (Refused (Chosen P L)) → Type 0
+  abbrev pub CommitAnswers : Chosen P L → List (Option S) → List (Option C) → Tables R S → Tables R S → Result (Committed P L C) (Refused (Chosen P L)) → Type 0
   CommitAnswers c states commands t t' (Ok closed) = Accepted (commit (sizes t) states commands) chosen rest (of_chosen c) t t' (outcome (outcome_of closed.outcome)) (of_rest closed.cluster)
   CommitAnswers c states commands t t' (Err e) = Rejected (commit (sizes t) states commands) chosen (of_chosen c) t t' c e.cluster e.refusal
 

@@ -35,7 +35,7 @@ fn agree_on<R: Value>(
     ensures { SameEntry R.Value.means result (agrees_on R.Value.alike n f (bit mask) accepted own (heard_row n sensors heard.now i k)) }
 {
     if set_bits(mask) < n - f {
-        return Entry::Missing;
+        return None;
     }
     if accepted {
         own
@@ -86,7 +86,7 @@ fn mask_of<R: Value>(n: usize, sensors: usize, i: usize, agreed: &[Entry<R>]) ->
 {
     let mut mask: u16 = 0;
     for k in 0..sensors {
-        if entry_at(agreed, place(n, sensors, i, k)).is_present() {
+        if entry_at(agreed, place(n, sensors, i, k)).is_some() {
             mask |= 1 << k;
         }
     }

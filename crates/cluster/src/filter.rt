@@ -74,8 +74,8 @@ fn accepts<R: Value>(
     ensures { result ≡ accepts_own R.Value.alike n f e (heard_row n sensors heard.now i k) }
 {
     match e {
-        Entry::Present(x) => heard_matches(n, sensors, i, k, heard, &x) >= n - f,
-        Entry::Missing => false,
+        Some(x) => heard_matches(n, sensors, i, k, heard, &x) >= n - f,
+        None => false,
     }
 }
 

@@ -32,8 +32,8 @@ fn run_of<A: Application>(app: &A, state: &A::State, entry: &Entry<A::Reading>) 
     ensures { SameEntry A.State.Value.means result (stepped_by (A.Application.stepped app.now) state.now entry.now) }
 {
     match entry {
-        Entry::Present(x) => Entry::Present(app.step(state, x)),
-        Entry::Missing => Entry::Missing,
+        Some(x) => Some(app.step(state, x)),
+        None => None,
     }
 }
 
@@ -52,7 +52,7 @@ fn write_run<A: Application>(
     for p in 0..run.len() {
         let i = p / sensors;
         if is_sound(marks, i) {
-            if let Entry::Present(next) = run_of(app, &state[i], &entries[p]) {
+            if let Some(next) = run_of(app, &state[i], &entries[p]) {
                 run[p] = next;
             }
         }

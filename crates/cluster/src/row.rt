@@ -83,7 +83,7 @@ impl<'a, T: Value> Entries for Heeded<'a, T> {
         if is_set(self.mask, j) {
             self.row.at(j)
         } else {
-            Entry::Missing
+            None
         }
     }
 }

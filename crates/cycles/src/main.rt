@@ -47,12 +47,12 @@ impl Tray {
         let zero = Count { value: 0 };
         Ok(Tray {
             state: vec![in heap; zero; n]?,
-            own: vec![in heap; Entry::Missing; each]?,
-            agreed: vec![in heap; Entry::Missing; each]?,
+            own: vec![in heap; None; each]?,
+            agreed: vec![in heap; None; each]?,
             run: vec![in heap; zero; each]?,
             accept: vec![in heap; false; each]?,
             yes: vec![in heap; 0u16; each]?,
-            heard: vec![in heap; Entry::Missing; n * each]?,
+            heard: vec![in heap; None; n * each]?,
             candidates: vec![in heap; 0u8; n]?,
             chosen: vec![in heap; 0u8; n]?,
         })
@@ -74,7 +74,7 @@ fn entries_of(heap: Global, load: Load) -> Result<Vec<Entry<Count>>, AllocError>
     let mut entries = Vec::new(heap);
     for i in 0..load.n {
         for k in 0..load.sensors {
-            entries.push(Entry::Present(reading(load, i, k)))?;
+            entries.push(Some(reading(load, i, k)))?;
         }
     }
     Ok(entries)
@@ -103,13 +103,13 @@ struct Said {
 impl Said {
     fn new(heap: Global, load: Load) -> Result<Said, AllocError> {
         let n = load.n;
-        let lie = Entry::Present(Count { value: 7 });
+        let lie = Some(Count { value: 7 });
         let size = PhaseKing.size(n, load.f);
         Ok(Said {
             claims: vec![in heap; lie; n * (n * load.sensors)]?,
             words: noise(heap, size.saturating_mul(n * load.sensors))?,
             states: vec![in heap; lie; n * n]?,
-            commands: vec![in heap; Entry::Present(Torque { value: 7 }); n]?,
+            commands: vec![in heap; Some(Torque { value: 7 }); n]?,
         })
     }
 }
@@ -123,7 +123,7 @@ fn run(
     tray: &mut Tray,
 ) -> anyhow::Result<Entry<Torque>> {
     let mut cluster = made;
-    let mut vote = Entry::Missing;
+    let mut vote = None;
     for _ in 0..cycles {
         let flown = fly(
             cluster,
@@ -222,11 +222,11 @@ fn main(rt: HostRuntime) -> anyhow::Result<()> {
     let cluster = made(load, &mut tray)?;
     let cycles = load.cycles;
     match run(cluster, cycles, entries.as_slice(), &said, &mut tray)? {
-        Entry::Present(vote) => {
+        Some(vote) => {
             let torque = vote.value;
             println!(rt; "{cycles} cycles, the last vote {torque}")?;
         }
-        Entry::Missing => println!(rt; "{cycles} cycles, no vote")?,
+        None => println!(rt; "{cycles} cycles, no vote")?,
     }
     Ok(())
 }

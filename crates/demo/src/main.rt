@@ -38,15 +38,15 @@ fn show_agreement(rt: &HostRuntime) -> anyhow::Result<()> {
 // One word of a line.
 fn entry_of(word: &str) -> anyhow::Result<Entry<Count>> {
     if word == "-" {
-        return Ok(Entry::Missing);
+        return Ok(None);
     }
     let value = word.parse::<i32>()?;
-    Ok(Entry::Present(Count { value }))
+    Ok(Some(Count { value }))
 }
 
 // The readings of one cycle.
 fn readings_of(line: &str) -> anyhow::Result<[Entry<Count>; 3]> {
-    let mut readings = [Entry::Missing; 3];
+    let mut readings = [None; 3];
     let mut sensor = 0;
     for word in line.split_whitespace() {
         if sensor >= 3 {
@@ -65,11 +65,11 @@ fn show_readings(rt: &HostRuntime, readings: &[Entry<Count>]) -> anyhow::Result<
     print!(rt; "  readings")?;
     for e in readings {
         match e {
-            Entry::Present(x) => {
+            Some(x) => {
                 let value = x.value;
                 print!(rt; " {value}")?;
             }
-            Entry::Missing => print!(rt; " -")?,
+            None => print!(rt; " -")?,
         }
     }
     println!(rt; "")?;
@@ -88,11 +88,11 @@ fn show_commands(rt: &HostRuntime, processors: &[Processor]) -> anyhow::Result<(
 
 fn show_vote(rt: &HostRuntime, vote: Entry<Torque>) -> anyhow::Result<()> {
     match vote {
-        Entry::Present(torque) => {
+        Some(torque) => {
             let value = torque.value;
             println!(rt; "  vote {value}")?;
         }
-        Entry::Missing => println!(rt; "  no majority: safe mode")?,
+        None => println!(rt; "  no majority: safe mode")?,
     }
     Ok(())
 }

@@ -1,7 +1,6 @@
 // Processors that each run the wheel, and the vote on what they send.
-ghost use Rattle.std.specs.Prelude.{◌≡◌, ◌<◌, map, length};
+ghost use Rattle.std.specs.Prelude.{◌≡◌, ◌<◌, map, length, Some, None};
 ghost use Rattle.values.specs.Entries.{entry_at};
-ghost use Rattle.values.specs.declared.Entry.TheVariants.{Present, Missing};
 ghost use Rattle.applications.specs.Wheel.{torque_of};
 ghost use Rattle.applications.specs.declared.wheel.Count.{Count};
 ghost use Rattle.applications.specs.declared.wheel.Torque.{Torque};
@@ -27,7 +26,7 @@ impl Processor {
     pub fn take(&mut self, reading: &Entry<Count>)
         ensures { self.new ≡ taken reading.now self.old }
     {
-        if let Entry::Present(x) = reading {
+        if let Some(x) = reading {
             self.state = Wheel.step(&self.state, x);
         }
     }
@@ -62,14 +61,14 @@ impl<'a> Entries for Sent<'a> {
     }
 
     fn at(&self, i: usize) -> Entry<Torque> {
-        Entry::Present(self.processors[i].send())
+        Some(self.processors[i].send())
     }
 }
 
 // The majority of what the processors send: where most are sound and hold one state, its command, whatever the others send.
 pub fn vote(processors: &[Processor]) -> Entry<Torque>
     ensures voted { VotedOn processors.now result }
-    ensures sound { (s : Count) → Hold processors.now s → MostSound processors.now → result ≡ Present record { value = torque_of s.value } }
+    ensures sound { (s : Count) → Hold processors.now s → MostSound processors.now → result ≡ Some record { value = torque_of s.value } }
 {
     majority(&Sent { processors })
 }
@@ -112,6 +111,6 @@ fn reading_at(readings: &[Entry<Count>], sensor: usize) -> Entry<Count>
     if sensor < readings.len() {
         readings[sensor]
     } else {
-        Entry::Missing
+        None
     }
 }

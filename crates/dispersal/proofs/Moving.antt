@@ -1,11 +1,9 @@
 -- How the loop over the states meets what is said of each.
-use Rattle.std.proofs.Common.{◌≡◌, ℕ, ◌+◌, ◌<◌, ◌≤◌, Bool, true, false, cond, not, List, length, sym, refl, ap, ◌∙◌, subst, arith}
+use Rattle.std.proofs.Common.{◌≡◌, ℕ, ◌+◌, ◌<◌, ◌≤◌, Bool, true, false, cond, not, List, length, sym, refl, ap, ◌∙◌, subst, arith, Option, Some, None}
 use mir.Val.{bool_byte}
 use Rattle.quorum.specs.Counting.{count}
 use Rattle.quorum.proofs.Counts.{one, one_le, count_zero, count_more}
 use Rattle.values.specs.Entries.{present, SameEntry}
-use Rattle.values.specs.declared.Entry.{Entry}
-use Rattle.values.specs.declared.Entry.TheVariants.{Present, Missing}
 use Rattle.values.proofs.Meanings.{same_present}
 use Rattle.protocol.specs.Tables.{Kept, Stored, ByBit, WrittenAt}
 use Rattle.dispersal.specs.Turning.{next_of, taken_by, put_at, Follows}
@@ -21,28 +19,28 @@ byte false = refl
 
 module _ {S M : Type 0} (means : S → M) where
   -- where nothing comes next the place is skipped
-  abbrev leaves : Bool → Entry S → Bool
-  leaves faulty goes = not (present (cond faulty Missing goes))
+  abbrev leaves : Bool → Option S → Bool
+  leaves faulty goes = not (present (cond faulty None goes))
 
   -- what is wanted of a state that is written
-  abbrev Goes : Bool → Entry S → S → Type 0
-  Goes faulty goes v = SameEntry means (Present v) (cond faulty Missing goes)
+  abbrev Goes : Bool → Option S → S → Type 0
+  Goes faulty goes v = SameEntry means (Some v) (cond faulty None goes)
 
-  stays : (b : Bool) (e : Entry S) → SameEntry means Missing (cond b Missing e) → leaves b e ≡ true
-  stays b e h = ap not (sym (same_present means Missing (cond b Missing e) h))
+  stays : (b : Bool) (e : Option S) → SameEntry means None (cond b None e) → leaves b e ≡ true
+  stays b e h = ap not (sym (same_present means None (cond b None e) h))
 
-  moves : (b : Bool) (e : Entry S) (v : S) → Goes b e v → leaves b e ≡ false
-  moves b e v h = ap not (sym (same_present means (Present v) (cond b Missing e) h))
+  moves : (b : Bool) (e : Option S) (v : S) → Goes b e v → leaves b e ≡ false
+  moves b e v h = ap not (sym (same_present means (Some v) (cond b None e) h))
 
-  by_bit : (b : Bool) (e : Entry S) (before after : List S) (p : ℕ) → Holds after p → WrittenAt (leaves b e) (Goes b e) before after p → ByBit b (Kept before after p) (Stored means e before after p)
+  by_bit : (b : Bool) (e : Option S) (before after : List S) (p : ℕ) → Holds after p → WrittenAt (leaves b e) (Goes b e) before after p → ByBit b (Kept before after p) (Stored means e before after p)
   by_bit true e before after p h w = w
-  by_bit false Missing before after p h w = w
-  by_bit false (Present x) before after p h w =
-      let P : Entry S → Type 0 = λ v. SameEntry means v (Present x) in
+  by_bit false None before after p h w = w
+  by_bit false (Some x) before after p h w =
+      let P : Option S → Type 0 = λ v. SameEntry means v (Some x) in
       let m : means h.value ≡ means x = ap means (sym (h.read h.value)) ∙ w h.value in
       subst P (sym h.is) m
 
-  module _ (faulty : ℕ → Bool) (goes : ℕ → Entry S) (over : ℕ → Bool) where
+  module _ (faulty : ℕ → Bool) (goes : ℕ → Option S) (over : ℕ → Bool) where
     -- below i the states have gone on, and this many were taken
     pub record Moved (before after : List S) (taken i : ℕ) : Type 0 where
       pub swept : Swept (λ q. leaves (faulty q) (goes q)) (λ q. Goes (faulty q) (goes q)) before after i
@@ -52,7 +50,7 @@ module _ {S M : Type 0} (means : S → M) where
     pub moved_none : (before : List S) → Moved before before 0 0
     moved_none before = record { swept = swept_none _ _ before; taken_is = sym (count_zero over); few = omega arith }
 
-    sweeps : {before after : List S} {i : ℕ} (next : Next S) (ys : List S) → SameEntry means (next_of next) (cond (faulty i) Missing (goes i)) → i < length after → ys ≡ put_at after i (next_of next)
+    sweeps : {before after : List S} {i : ℕ} (next : Next S) (ys : List S) → SameEntry means (next_of next) (cond (faulty i) None (goes i)) → i < length after → ys ≡ put_at after i (next_of next)
         → Swept (λ q. leaves (faulty q) (goes q)) (λ q. Goes (faulty q) (goes q)) before after i → Swept (λ q. leaves (faulty q) (goes q)) (λ q. Goes (faulty q) (goes q)) before ys (i + 1)
     sweeps {i = i} Stays ys f l e m = swept_left _ _ ys e (stays (faulty i) (goes i) f) m
     sweeps {i = i} (Runs s) ys f l e m = swept_wrote _ _ ys s e l (moves (faulty i) (goes i) s f) f m

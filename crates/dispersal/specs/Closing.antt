@@ -1,9 +1,8 @@
 -- What commit does to the lent tables, and what it answers.
-use Rattle.std.specs.Prelude.{◌≡◌, ℕ, ◌*◌, ◌<◌, Bool, not, ◌&&◌, List, length, Ok, Err, Result, ◌==◌, slice_index}
+use Rattle.std.specs.Prelude.{◌≡◌, ℕ, ◌*◌, ◌<◌, Bool, not, ◌&&◌, List, length, Ok, Err, Result, ◌==◌, slice_index, Option}
 use Rattle.quorum.specs.Counting.{bit, count, lowest}
 use Rattle.values.specs.Entries.{SameEntry}
 use Rattle.values.specs.Majority.{majority}
-use Rattle.values.specs.declared.Entry.{Entry}
 use Rattle.protocol.specs.Tables.{Kept, Stored, ByBit}
 use Rattle.protocol.specs.Setup.{Tables, sizes}
 use Rattle.protocol.specs.Model.{Verdict, granted, refused}
@@ -15,7 +14,7 @@ use Rattle.dispersal.specs.Turning.{onward, takes_over}
 use Rattle.dispersal.specs.declared.Outcome.{Outcome}
 
 -- the questions: on the tables, and on how many dispersed states and commands there are
-abbrev pub close_verdict : {R S C : Type 0} → ℕ → ℕ → Tables R S → List (Entry S) → List (Entry C) → Verdict
+abbrev pub close_verdict : {R S C : Type 0} → ℕ → ℕ → Tables R S → List (Option S) → List (Option C) → Verdict
 close_verdict n sensors t states commands = stage_verdict (fits n sensors (sizes t)) (length states == n * n && length commands == n)
 
 -- the lowest sound replica
@@ -23,7 +22,7 @@ abbrev pub speaker : ℕ → ℕ → ℕ
 speaker n marks = lowest n (λ i. not (bit marks i))
 
 module _ {R S C MS MC : Type 0} (means_s : S → MS) (alike_s : S → S → Bool) (means_c : C → MC) (alike_c : C → C → Bool) (commanded : S → C)
-    (n sensors marks : ℕ) (t : Tables R S) (states : List (Entry S)) (commands : List (Entry C)) (state' : List S) where
+    (n sensors marks : ℕ) (t : Tables R S) (states : List (Option S)) (commands : List (Option C)) (state' : List S) where
   -- The states go on, and the outcome is answered.
   pub record Closed (o : Outcome C) : Type 0 where
     -- every question was answered yes

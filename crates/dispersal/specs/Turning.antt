@@ -1,10 +1,8 @@
 -- What becomes of a replica's state at commit.
-use Rattle.std.specs.Prelude.{◌≡◌, ℕ, ◌<◌, Bool, true, false, cond, not, ◌&&◌, List, slice_set}
+use Rattle.std.specs.Prelude.{◌≡◌, ℕ, ◌<◌, Bool, true, false, cond, not, ◌&&◌, List, slice_set, Option, Some, None}
 use Rattle.quorum.specs.Counting.{bit}
 use Rattle.values.specs.Entries.{SameEntry}
 use Rattle.values.specs.Majority.{majority}
-use Rattle.values.specs.declared.Entry.{Entry}
-use Rattle.values.specs.declared.Entry.TheVariants.{Present, Missing}
 use Rattle.protocol.specs.declared.Turn.{Turn}
 use Rattle.protocol.specs.declared.Turn.TheVariants.{Idle, Ran, Behind}
 use Rattle.protocol.specs.Turns.{turn_at, dispersal, goes_on, takes}
@@ -18,10 +16,10 @@ RanBelow bound (Ran p) = p < bound
 RanBelow bound Behind = Unit {0}
 
 -- the state that it goes on with, if any
-abbrev pub next_of : {S : Type 0} → Next S → Entry S
-next_of Stays = Missing
-next_of (Runs s) = Present s
-next_of (Takes s) = Present s
+abbrev pub next_of : {S : Type 0} → Next S → Option S
+next_of Stays = None
+next_of (Runs s) = Some s
+next_of (Takes s) = Some s
 
 -- whether that was dispersed
 abbrev pub taken_by : {S : Type 0} → Next S → Bool
@@ -30,17 +28,17 @@ taken_by (Runs s) = false
 taken_by (Takes s) = true
 
 -- the states with an entry's value at a place, the same where it is missing
-abbrev pub put_at : {S : Type 0} → List S → ℕ → Entry S → List S
-put_at state i Missing = state
-put_at state i (Present s) = slice_set state i s
+abbrev pub put_at : {S : Type 0} → List S → ℕ → Option S → List S
+put_at state i None = state
+put_at state i (Some s) = slice_set state i s
 
-module _ {S : Type 0} (alike : S → S → Bool) (n sensors marks : ℕ) (run : List S) (accept : List Bool) (chosen : List ℕ) (states : List (Entry S)) (i : ℕ) where
+module _ {S : Type 0} (alike : S → S → Bool) (n sensors marks : ℕ) (run : List S) (accept : List Bool) (chosen : List ℕ) (states : List (Option S)) (i : ℕ) where
   -- the majority of what was dispersed to i
-  abbrev pub offered : Entry S
+  abbrev pub offered : Option S
   offered = majority alike n (dispersal n sensors marks run accept chosen states i)
 
   -- the state that a sound i goes on with
-  abbrev pub onward : Entry S
+  abbrev pub onward : Option S
   onward = goes_on (turn_at sensors accept chosen i) run offered
 
   -- i is sound and takes a dispersed state
@@ -48,8 +46,8 @@ module _ {S : Type 0} (alike : S → S → Bool) (n sensors marks : ℕ) (run : 
   takes_over = not (bit marks i) && takes (turn_at sensors accept chosen i) offered
 
 -- What comes next is what the turn gives, and for a faulty replica nothing.
-pub record Follows {S M : Type 0} (means : S → M) (faulty : Bool) (goes : Entry S) (took : Bool) (next : Next S) : Type 0 where
+pub record Follows {S M : Type 0} (means : S → M) (faulty : Bool) (goes : Option S) (took : Bool) (next : Next S) : Type 0 where
   -- the state that it goes on with, by meaning
-  pub state : SameEntry means (next_of next) (cond faulty Missing goes)
+  pub state : SameEntry means (next_of next) (cond faulty None goes)
   -- and whether that was dispersed
   pub taken : took ≡ taken_by next

@@ -45,8 +45,8 @@ impl<'a, S: Value> Entries for Dispersed<'a, S> {
             return entry_at(self.states, place(n, n, j, self.to));
         }
         match turn_of(self.parameters, j, self.accept, self.chosen) {
-            Turn::Ran(p) => Entry::Present(value_at(self.run, p)),
-            Turn::Idle | Turn::Behind => Entry::Missing,
+            Turn::Ran(p) => Some(value_at(self.run, p)),
+            Turn::Idle | Turn::Behind => None,
         }
     }
 }

@@ -1,7 +1,6 @@
 // Places in the tables, and what they hold.
-ghost use Rattle.std.specs.Prelude.{◌≡◌, ◌+◌, ◌*◌, ◌<◌, ◌≤◌, length};
+ghost use Rattle.std.specs.Prelude.{◌≡◌, ◌+◌, ◌*◌, ◌<◌, ◌≤◌, length, Some};
 ghost use Rattle.values.specs.Entries.{entry_at};
-ghost use Rattle.values.specs.declared.Entry.TheVariants.{Present};
 ghost use Rattle.protocol.specs.Tables.{value_at};
 
 use values::{Entry, Value};
@@ -26,7 +25,7 @@ pub(crate) fn entry_at<V: Value>(entries: &[Entry<V>], p: usize) -> Entry<V>
 // The value at a place.
 pub(crate) fn value_at<V: Value>(values: &[V], p: usize) -> V
     requires { p < length values.now }
-    ensures { value_at values.now p ≡ Present result }
+    ensures { value_at values.now p ≡ Some result }
 {
     values[p]
 }

@@ -43,8 +43,8 @@ impl<'a, A: Application> Entries for Sent<'a, A> {
             return entry_at(self.commands, j);
         }
         match turn_of(self.parameters, j, self.accept, self.chosen) {
-            Turn::Behind => Entry::Missing,
-            Turn::Idle | Turn::Ran(_) => Entry::Present(self.app.command(&value_at(self.state, j))),
+            Turn::Behind => None,
+            Turn::Idle | Turn::Ran(_) => Some(self.app.command(&value_at(self.state, j))),
         }
     }
 }

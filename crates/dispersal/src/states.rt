@@ -45,8 +45,8 @@ fn next_of<S: Value>(
         Turn::Idle => Next::Stays,
         Turn::Ran(p) => Next::Runs(value_at(run, p)),
         Turn::Behind => match dispersed_majority(parameters, i, run, accept, chosen, states) {
-            Entry::Present(s) => Next::Takes(s),
-            Entry::Missing => Next::Stays,
+            Some(s) => Next::Takes(s),
+            None => Next::Stays,
         },
     }
 }

@@ -5,8 +5,8 @@ use values::{Application, Entry};
 
 fn level(x: f64) -> Result<Level, Fail> {
     match Level::from_f64(x) {
-        Entry::Present(l) => Ok(l),
-        Entry::Missing => Err(Fail::new("a number that should qualify does not")),
+        Some(l) => Ok(l),
+        None => Err(Fail::new("a number that should qualify does not")),
     }
 }
 
@@ -40,7 +40,7 @@ fn others_are_missing(rt: HostRuntime) {
         zero / zero,
     ];
     for x in past {
-        assert!(rt; !Level::from_f64(x).is_present());
+        assert!(rt; !Level::from_f64(x).is_some());
     }
 }
 
@@ -97,8 +97,8 @@ fn thrusts_have_numbers(rt: HostRuntime) {
     assert_eq!(rt; Thrust::Pos.code(), 1);
     assert_eq!(rt; Thrust::Neg.code(), 2);
     for code in 0..3u8 {
-        assert!(rt; Thrust::from_code(code).is_present());
+        assert!(rt; Thrust::from_code(code).is_some());
     }
-    assert!(rt; !Thrust::from_code(3).is_present());
-    assert!(rt; !Thrust::from_code(255).is_present());
+    assert!(rt; !Thrust::from_code(3).is_some());
+    assert!(rt; !Thrust::from_code(255).is_some());
 }

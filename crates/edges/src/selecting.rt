@@ -7,12 +7,12 @@ use values::Entry;
 use values::entries::majority;
 
 fn count(value: i32) -> Entry<Count> {
-    Entry::Present(Count { value })
+    Some(Count { value })
 }
 
 #[test]
 fn no_candidate_is_no_sensor(rt: HostRuntime) {
-    let none: [Entry<Count>; 3] = [Entry::Missing, Entry::Missing, Entry::Missing];
+    let none: [Entry<Count>; 3] = [None, None, None];
     assert_eq!(rt; MidValue.choose(&none), NO_SENSOR);
     assert_eq!(rt; First.choose(&none), NO_SENSOR);
     assert_eq!(rt; MidValue.choose(&none[0..0]), NO_SENSOR);
@@ -22,12 +22,12 @@ fn no_candidate_is_no_sensor(rt: HostRuntime) {
 #[test]
 fn equal_readings_give_the_lowest(rt: HostRuntime) {
     assert_eq!(rt; MidValue.choose(&[count(5), count(5), count(5)]), 0);
-    assert_eq!(rt; MidValue.choose(&[Entry::Missing, count(5), count(5)]), 1);
+    assert_eq!(rt; MidValue.choose(&[None, count(5), count(5)]), 1);
     assert_eq!(rt;
         MidValue.choose(&[count(9), count(5), count(5), count(5)]),
         1
     );
-    assert_eq!(rt; First.choose(&[Entry::Missing, count(5), count(5)]), 1);
+    assert_eq!(rt; First.choose(&[None, count(5), count(5)]), 1);
 }
 
 // Odd and even numbers of candidates: of an even one the lower of the two in the middle.
@@ -41,7 +41,7 @@ fn mid_values(rt: HostRuntime) {
         3
     );
     assert_eq!(rt;
-        MidValue.choose(&[count(9), Entry::Missing, count(4), Entry::Missing]),
+        MidValue.choose(&[count(9), None, count(4), None]),
         2
     );
     assert_eq!(rt;
@@ -63,8 +63,8 @@ fn mid_values_of_levels(rt: HostRuntime) {
 
 fn vote(entries: &[Entry<Count>]) -> Option<i32> {
     match majority(&entries) {
-        Entry::Present(x) => Some(x.value),
-        Entry::Missing => None,
+        Some(x) => Some(x.value),
+        None => None,
     }
 }
 
@@ -72,9 +72,9 @@ fn vote(entries: &[Entry<Count>]) -> Option<i32> {
 #[test]
 fn majorities(rt: HostRuntime) {
     assert_eq!(rt; vote(&[]), None);
-    assert_eq!(rt; vote(&[Entry::Missing, Entry::Missing]), None);
+    assert_eq!(rt; vote(&[None, None]), None);
     assert_eq!(rt;
-        vote(&[Entry::Missing, count(1), Entry::Missing, Entry::Missing]),
+        vote(&[None, count(1), None, None]),
         Some(1)
     );
     assert_eq!(rt; vote(&[count(1), count(1), count(2)]), Some(1));

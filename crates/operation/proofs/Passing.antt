@@ -1,7 +1,6 @@
 -- How one call's run goes on, as the list has it.
-use Rattle.std.proofs.Common.{◌≡◌, ℕ, true, false, List, sym, refl, ap, ◌∙◌, ap₂, subst₂, Bor}
+use Rattle.std.proofs.Common.{◌≡◌, ℕ, true, false, List, sym, refl, ap, ◌∙◌, ap₂, subst₂, Bor, Option}
 use Rattle.std.proofs.lemmas.Bool.{true≢false}
-use Rattle.values.specs.declared.Entry.{Entry}
 use Rattle.protocol.specs.Setup.{Rule, Tables, Sizes, Call as Asked, Stage, rest, taken_in, filtered, agreed, chosen, Answer, refusal}
 use Rattle.protocol.specs.Model.{refused, verdict, in_turn}
 use Rattle.protocol.specs.Clusters.{Semantics, Cluster, Snapshot, config, Carries}
@@ -54,7 +53,7 @@ passes w call q out = record {
 module _ {R S C Z : Type 0} (choice : Z → Rule R) (z : Sizes) where
   -- at each stage, every call but those of its turn
 
-  pub out_at_rest : (call : Call R S C Z) → ((x : Bor (List (Entry R))) → call ≡ Intake x → ⊥) → ((x : ℕ) → call ≡ Look x → ⊥) → in_turn (asked choice z call) rest ≡ false
+  pub out_at_rest : (call : Call R S C Z) → ((x : Bor (List (Option R))) → call ≡ Intake x → ⊥) → ((x : ℕ) → call ≡ Look x → ⊥) → in_turn (asked choice z call) rest ≡ false
   unfolding in_turn
   out_at_rest (Intake x) f g = absurd (f x refl)
   out_at_rest (Filter x) f g = refl
@@ -64,7 +63,7 @@ module _ {R S C Z : Type 0} (choice : Z → Rule R) (z : Sizes) where
   out_at_rest Abandon f g = refl
   out_at_rest (Look x) f g = absurd (g x refl)
 
-  pub out_at_taken_in : (call : Call R S C Z) → ((x : Bor (List (Entry R))) → call ≡ Filter x → ⊥) → (call ≡ Abandon → ⊥) → in_turn (asked choice z call) taken_in ≡ false
+  pub out_at_taken_in : (call : Call R S C Z) → ((x : Bor (List (Option R))) → call ≡ Filter x → ⊥) → (call ≡ Abandon → ⊥) → in_turn (asked choice z call) taken_in ≡ false
   unfolding in_turn
   out_at_taken_in (Intake x) f g = refl
   out_at_taken_in (Filter x) f g = absurd (f x refl)
@@ -94,7 +93,7 @@ module _ {R S C Z : Type 0} (choice : Z → Rule R) (z : Sizes) where
   out_at_agreed Abandon f g = absurd (g refl)
   out_at_agreed (Look x) f g = refl
 
-  pub out_at_chosen : (call : Call R S C Z) → ((x : Bor (List (Entry S))) (y : Bor (List (Entry C))) → call ≡ Commit x y → ⊥) → (call ≡ Abandon → ⊥) → in_turn (asked choice z call) chosen ≡ false
+  pub out_at_chosen : (call : Call R S C Z) → ((x : Bor (List (Option S))) (y : Bor (List (Option C))) → call ≡ Commit x y → ⊥) → (call ≡ Abandon → ⊥) → in_turn (asked choice z call) chosen ≡ false
   unfolding in_turn
   out_at_chosen (Intake x) f g = refl
   out_at_chosen (Filter x) f g = refl

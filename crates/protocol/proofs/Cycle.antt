@@ -1,12 +1,10 @@
 -- What a cycle's entries, claims, words and rule give at every sound replica.
-use Rattle.std.proofs.Common.{◌≡◌, ℕ, ◌+◌, ◌-◌, ◌*◌, ◌<◌, ◌≤◌, Bool, cond, ◌&&◌, T, ◌⊎◌, length, sym, refl, ap, ◌∙◌, subst, inl, inr, arith, le→leb, leb→le}
+use Rattle.std.proofs.Common.{◌≡◌, ℕ, ◌+◌, ◌-◌, ◌*◌, ◌<◌, ◌≤◌, Bool, cond, ◌&&◌, T, ◌⊎◌, length, sym, refl, ap, ◌∙◌, subst, inl, inr, arith, le→leb, leb→le, Option, Some, None}
 use Rattle.quorum.specs.Counting.{bit, count}
 use Rattle.quorum.proofs.Counts.{both, join, is_yes, count_mono, count_same, count_overlap, count_some, lowest_some}
 use Rattle.layers.specs.Layers.{Sound}
 use Rattle.values.specs.Entries.{present, SameEntry, entry_at, carries}
 use Rattle.values.specs.Majority.{majority}
-use Rattle.values.specs.declared.Entry.{Entry}
-use Rattle.values.specs.declared.Entry.TheVariants.{Present, Missing}
 use Rattle.values.proofs.Meanings.{same_sym, same_trans, same_carries}
 use Rattle.selections.specs.Choices.{no_sensor, Chooses}
 use Rattle.protocol.specs.Setup.{Config, sound, lowest_sound}
@@ -22,15 +20,15 @@ module _ {R S C : Type 0} (g : Config R S C) (p : Model R S) where
   good k j = sound g j && accept g p j k
 
   -- what i heard from all whose bit is set
-  abbrev pub heard_from : ℕ → ℕ → ℕ → Entry R
-  heard_from i k j = cond (yes_bit g p i k j) (heard g p i j k) Missing
+  abbrev pub heard_from : ℕ → ℕ → ℕ → Option R
+  heard_from i k j = cond (yes_bit g p i k j) (heard g p i j k) None
 
   -- A sensor is chosen, and its reading is x.
   pub record Picked (x : R) : Type 0 where
     pub within : chosen_sensor g p < g.sensors
     pub candidate : T (is_candidate g p (chosen_sensor g p))
-    pub read : reading g p (chosen_sensor g p) ≡ Present x
-    pub is : chosen_reading g p ≡ Present x
+    pub read : reading g p (chosen_sensor g p) ≡ Some x
+    pub is : chosen_reading g p ≡ Some x
 
 module _ {R S C : Type 0} {g : Config R S C} (ok : Admitted g) (p : Model R S) where
   open g use {n, f, sensors, marks, means_r, alike_r}
@@ -79,17 +77,17 @@ module _ {R S C : Type 0} {g : Config R S C} (ok : Admitted g) (p : Model R S) w
   pub good_reading : (k j : ℕ) → j < n → T (good g p k j) → SameEntry means_r (own g p j k) (reading g p k)
   good_reading k j l t = accepted_same ok p j (acceptor g p k) k (both (sound g j) _ t).1 (low_good k j l t)
 
-  pub reading_is : (k : ℕ) → T (is_candidate g p k) → (x : R) × (reading g p k ≡ Present x)
+  pub reading_is : (k : ℕ) → T (is_candidate g p k) → (x : R) × (reading g p k ≡ Some x)
   reading_is k c =
       let w = count_some n (good g p k) (omega (arith, more_than_f k c)) in
       let a = accept_is ok p (acceptor g p k) k (low_good k w.0 w.1 w.2) in
       (a.0, a.1)
 
-  good_has : (k : ℕ) (x : R) → reading g p k ≡ Present x → (j : ℕ) → j < n → T (good g p k j) → SameEntry means_r (own g p j k) (Present x)
+  good_has : (k : ℕ) (x : R) → reading g p k ≡ Some x → (j : ℕ) → j < n → T (good g p k j) → SameEntry means_r (own g p j k) (Some x)
   good_has k x e j l t = rw e at (good_reading k j l t)
 
   -- at least n − 2f sound replicas had a candidate's reading from the sensor
-  pub sourced : (k : ℕ) (x : R) → T (is_candidate g p k) → reading g p k ≡ Present x → n - 2 * f ≤ count n (λ i. sound g i && carries alike_r x (own g p i k))
+  pub sourced : (k : ℕ) (x : R) → T (is_candidate g p k) → reading g p k ≡ Some x → n - 2 * f ≤ count n (λ i. sound g i && carries alike_r x (own g p i k))
   sourced k x c e =
       omega (
         arith,
@@ -99,51 +97,51 @@ module _ {R S C : Type 0} {g : Config R S C} (ok : Admitted g) (p : Model R S) w
       )
 
   -- the majority of heard from all whose bit is set is the reading
-  pub heard_majority : (i k : ℕ) (entry : ℕ → Entry R) → ((j : ℕ) → j < n → entry j ≡ heard_from g p i k j) → i < n → Sound marks i → T (is_candidate g p k)
+  pub heard_majority : (i k : ℕ) (entry : ℕ → Option R) → ((j : ℕ) → j < n → entry j ≡ heard_from g p i k j) → i < n → Sound marks i → T (is_candidate g p k)
       → SameEntry means_r (majority alike_r n entry) (reading g p k)
   heard_majority i k entry from l s c =
       let x = reading_is k c in
       let set : ℕ → Bool = λ j. sound g j && yes_bit g p i k j in
       rw x.1 (outvoted means_r alike_r ok.laws.readings n f entry (sound g) set x.0 (few_faulty ok) (omega (arith, ok.valid.sized.1, candidate_bits i k l s c))
-      (λ j m t q. join (sound g j) (yes_bit g p i k j) t (present_cond (yes_bit g p i k j) (heard g p i j k) (subst (λ (e : Entry R). T (present e)) (from j m) q)))
+      (λ j m t q. join (sound g j) (yes_bit g p i k j) t (present_cond (yes_bit g p i k j) (heard g p i j k) (subst (λ (e : Option R). T (present e)) (from j m) q)))
       (λ j m t.
       let b = both (sound g j) (yes_bit g p i k j) t in
-      let e : entry j ≡ own g p j k = from j m ∙ cond_yes (yes_bit g p i k j) (heard g p i j k) Missing b.1 ∙ heard_sound ok p i j k (yes_no (bit marks j) b.0) in
+      let e : entry j ≡ own g p j k = from j m ∙ cond_yes (yes_bit g p i k j) (heard g p i j k) None b.1 ∙ heard_sound ok p i j k (yes_no (bit marks j) b.0) in
       rw e (good_has k x.0 x.1 j m (set_good i k j l s m t))))
 
   -- ---- the readings to choose from
 
-  pub readings_at : (k : ℕ) → k < sensors → entry_at (readings g p) k ≡ cond (is_candidate g p k) (reading g p k) Missing
+  pub readings_at : (k : ℕ) → k < sensors → entry_at (readings g p) k ≡ cond (is_candidate g p k) (reading g p k) None
   unfolding readings
-  readings_at k l = table_at sensors (λ k. cond (is_candidate g p k) (reading g p k) Missing) Missing k l
+  readings_at k l = table_at sensors (λ k. cond (is_candidate g p k) (reading g p k) None) None k l
 
-  pub readings_past : (k : ℕ) → sensors ≤ k → entry_at (readings g p) k ≡ Missing
+  pub readings_past : (k : ℕ) → sensors ≤ k → entry_at (readings g p) k ≡ None
   unfolding readings
-  readings_past k l = table_past sensors (λ k. cond (is_candidate g p k) (reading g p k) Missing) Missing k l
+  readings_past k l = table_past sensors (λ k. cond (is_candidate g p k) (reading g p k) None) None k l
 
   pub readings_length : length (readings g p) ≡ sensors
   unfolding readings
-  readings_length = table_length sensors (λ k. cond (is_candidate g p k) (reading g p k) Missing)
+  readings_length = table_length sensors (λ k. cond (is_candidate g p k) (reading g p k) None)
 
   pub readings_short : length (readings g p) < no_sensor
   readings_short = omega (arith, readings_length, ok.valid.sensors)
 
   pub candidate_at : (k : ℕ) → k < sensors → T (is_candidate g p k) → entry_at (readings g p) k ≡ reading g p k
-  candidate_at k l c = readings_at k l ∙ cond_yes (is_candidate g p k) (reading g p k) Missing c
+  candidate_at k l c = readings_at k l ∙ cond_yes (is_candidate g p k) (reading g p k) None c
 
   pub candidate_present : (k : ℕ) → k < sensors → T (is_candidate g p k) → T (present (entry_at (readings g p) k))
   candidate_present k l c = rw (candidate_at k l c, (reading_is k c).1) tt
 
-  pub picked : (x : R) → chosen_reading g p ≡ Present x → Picked g p x
+  pub picked : (x : R) → chosen_reading g p ≡ Some x → Picked g p x
   picked x e =
       let c = chosen_sensor g p in
       let t : T (present (chosen_reading g p)) = rw e tt in
       let l : c < sensors = omega (arith, inside (readings g p) c t, readings_length) in
-      let h = present_cond (is_candidate g p c) (reading g p c) (subst (λ (d : Entry R). T (present d)) (readings_at c l) t) in
+      let h = present_cond (is_candidate g p c) (reading g p c) (subst (λ (d : Option R). T (present d)) (readings_at c l) t) in
       record { within = l; candidate = h; read = sym (candidate_at c l h) ∙ e; is = e }
 
   -- no sensor is chosen, or one that is a candidate
-  pub none_or_picked : Chooses means_r p.rule → ((chosen_sensor g p ≡ no_sensor) × (chosen_reading g p ≡ Missing)) ⊎ ((x : R) × Picked g p x)
+  pub none_or_picked : Chooses means_r p.rule → ((chosen_sensor g p ≡ no_sensor) × (chosen_reading g p ≡ None)) ⊎ ((x : R) × Picked g p x)
   none_or_picked rule =
       elim (none_or_some (readings g p)) [
         | inl h ↦ inl (rule.none (readings g p) readings_short h, missing (chosen_reading g p) (h (chosen_sensor g p)))
@@ -153,9 +151,9 @@ module _ {R S C : Type 0} {g : Config R S C} (ok : Admitted g) (p : Model R S) w
       found : T (present (chosen_reading g p)) → (x : R) × Picked g p x
       found t = let x = has_value (chosen_reading g p) t in (x.0, picked x.0 x.1)
 
-      missing : (e : Entry R) → (T (present e) → ⊥) → e ≡ Missing
-      missing Missing h = refl
-      missing (Present x) h = absurd (h tt)
+      missing : (e : Option R) → (T (present e) → ⊥) → e ≡ None
+      missing None h = refl
+      missing (Some x) h = absurd (h tt)
 
   -- ---- steady sensors
 
@@ -175,9 +173,9 @@ module _ {R S C : Type 0} {g : Config R S C} (ok : Admitted g) (p : Model R S) w
             (λ j l t. let r = yes_no (bit marks j) t in subst T (sym (yes_accept (lowest_sound g) k j low.0 low.1 l r)) (steady_accepted k s j l r)),
       ))
 
-  pub steady_reading : (k : ℕ) (s : Steady g p k) → SameEntry means_r (reading g p k) (Present s.0)
+  pub steady_reading : (k : ℕ) (s : Steady g p k) → SameEntry means_r (reading g p k) (Some s.0)
   steady_reading k s =
       let low = low_sound ok in
       let i = lowest_sound g in
       let r = good_reading k i low.0 (join (sound g i) (accept g p i k) (no_yes (bit marks i) low.1) (steady_accepted k s i low.0 low.1)) in
-      same_trans means_r (reading g p k) (own g p i k) (Present s.0) (same_sym means_r (own g p i k) (reading g p k) r) (s.1 i low.0 low.1)
+      same_trans means_r (reading g p k) (own g p i k) (Some s.0) (same_sym means_r (own g p i k) (reading g p k) r) (s.1 i low.0 low.1)

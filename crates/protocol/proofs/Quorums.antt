@@ -1,12 +1,10 @@
 -- Quorums of replicas, and that two replicas never accept different readings of a sensor.
-use Rattle.std.proofs.Common.{◌≡◌, ℕ, ◌-◌, ◌<◌, ◌≤◌, Bool, not, ◌&&◌, T, sym, refl, subst, arith, le→leb, leb→le}
+use Rattle.std.proofs.Common.{◌≡◌, ℕ, ◌-◌, ◌<◌, ◌≤◌, Bool, not, ◌&&◌, T, sym, refl, subst, arith, le→leb, leb→le, Option, Some, None}
 use Rattle.std.proofs.lemmas.Bool.{cond-false}
 use Rattle.quorum.specs.Counting.{bit, count}
 use Rattle.quorum.proofs.Counts.{both, count_mono, count_not, count_overlap, count_some, lowest_some}
 use Rattle.layers.specs.Layers.{Sound}
 use Rattle.values.specs.Entries.{SameEntry, carries, matches}
-use Rattle.values.specs.declared.Entry.{Entry}
-use Rattle.values.specs.declared.Entry.TheVariants.{Present, Missing}
 use Rattle.values.proofs.Meanings.{same_sym, same_trans, carries_same, same_carries}
 use Rattle.protocol.specs.Setup.{Config, sound, lowest_sound}
 use Rattle.protocol.specs.Model.{Model, accepts, own, heard, accept}
@@ -45,26 +43,26 @@ module _ {R S C : Type 0} {g : Config R S C} (ok : Admitted g) where
       (j, w.1, yes_no (bit marks j) s.1, t.0, t.1)
 
   -- what is accepted is present, and a quorum has it
-  accepts_is : (e : Entry R) (h : ℕ → Entry R) → T (accepts g e h) → (x : R) × (e ≡ Present x) × (n - f ≤ matches alike_r x n h)
-  accepts_is Missing h t = absurd t
-  accepts_is (Present x) h t = (x, refl, leb→le _ _ t)
+  accepts_is : (e : Option R) (h : ℕ → Option R) → T (accepts g e h) → (x : R) × (e ≡ Some x) × (n - f ≤ matches alike_r x n h)
+  accepts_is None h t = absurd t
+  accepts_is (Some x) h t = (x, refl, leb→le _ _ t)
 
   -- what all sound replicas say is accepted
-  pub backed : (e : Entry R) (h : ℕ → Entry R) (x : R) → SameEntry means_r e (Present x) → ((j : ℕ) → j < n → Sound marks j → SameEntry means_r (h j) (Present x)) → T (accepts g e h)
-  backed Missing h x same all = absurd same
-  backed (Present y) h x same all =
+  pub backed : (e : Option R) (h : ℕ → Option R) (x : R) → SameEntry means_r e (Some x) → ((j : ℕ) → j < n → Sound marks j → SameEntry means_r (h j) (Some x)) → T (accepts g e h)
+  backed None h x same all = absurd same
+  backed (Some y) h x same all =
       le→leb _ _ (omega (
         arith,
         many_sound,
         count_mono n (sound g) (λ j. carries alike_r y (h j))
-            (λ j l t. same_carries means_r alike_r ok.laws.readings y (h j) (same_trans means_r (h j) (Present x) (Present y) (all j l (yes_no (bit marks j) t)) (sym same))),
+            (λ j l t. same_carries means_r alike_r ok.laws.readings y (h j) (same_trans means_r (h j) (Some x) (Some y) (all j l (yes_no (bit marks j) t)) (sym same))),
       ))
 
   module _ (p : Model R S) where
     pub heard_sound : (i j k : ℕ) → Sound marks j → heard g p i j k ≡ own g p j k
     heard_sound i j k s = cond-false (bit marks j) _ _ s
 
-    pub accept_is : (i k : ℕ) → T (accept g p i k) → (x : R) × (own g p i k ≡ Present x) × (n - f ≤ matches alike_r x n (λ j. heard g p i j k))
+    pub accept_is : (i k : ℕ) → T (accept g p i k) → (x : R) × (own g p i k ≡ Some x) × (n - f ≤ matches alike_r x n (λ j. heard g p i j k))
     unfolding accept
     accept_is i k t = accepts_is (own g p i k) (λ j. heard g p i j k) t
 
@@ -75,6 +73,6 @@ module _ {R S C : Type 0} {g : Config R S C} (ok : Admitted g) where
         let y = accept_is l k b in
         let q = share (λ j. carries alike_r x.0 (heard g p i j k)) (λ j. carries alike_r y.0 (heard g p l j k)) x.2 y.2 in
         let said = own g p q.0 k in
-        let got : (m : ℕ) (z : R) → T (carries alike_r z (heard g p m q.0 k)) → SameEntry means_r said (Present z) = λ m z t.
-        carries_same means_r alike_r ok.laws.readings z said (subst (λ (e : Entry R). T (carries alike_r z e)) (heard_sound m q.0 k q.2) t) in
-        rw (x.1, y.1) (same_trans means_r (Present x.0) said (Present y.0) (same_sym means_r said (Present x.0) (got i x.0 q.3)) (got l y.0 q.4))
+        let got : (m : ℕ) (z : R) → T (carries alike_r z (heard g p m q.0 k)) → SameEntry means_r said (Some z) = λ m z t.
+        carries_same means_r alike_r ok.laws.readings z said (subst (λ (e : Option R). T (carries alike_r z e)) (heard_sound m q.0 k q.2) t) in
+        rw (x.1, y.1) (same_trans means_r (Some x.0) said (Some y.0) (same_sym means_r said (Some x.0) (got i x.0 q.3)) (got l y.0 q.4))

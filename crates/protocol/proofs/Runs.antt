@@ -1,6 +1,5 @@
 -- Every run is consistent: sound replicas never part.
-use Rattle.std.proofs.Common.{◌≡◌, ℕ, Bool, true, cond, [], ◌∷◌, ◌++◌, sym, refl, ap, ◌∙◌, subst, arith}
-use Rattle.values.specs.declared.Entry.TheVariants.{Present}
+use Rattle.std.proofs.Common.{◌≡◌, ℕ, Bool, true, cond, [], ◌∷◌, ◌++◌, sym, refl, ap, ◌∙◌, subst, arith, Some}
 use Rattle.protocol.specs.Tables.{value_at}
 use Rattle.protocol.specs.Setup.{Config, Tables, Call, intake, filter, agree, select, commit, abandon, look, History, Stage, taken_in, filtered, agreed, chosen, Moment}
 use Rattle.protocol.specs.Model.{Model, Verdict, granted, refused, verdict, advance, in_turn, decided, model}
@@ -44,7 +43,7 @@ module _ {R S C : Type 0} {g : Config R S C} (ok : Admitted g) where
 
   tied : {h : History R S C} {m : Moment R S C} → Run g h m → Tied g (model g h) m
   unfolding model
-  tied (made {m = m} v d) = record { stage = d.stage; holds = λ i l s. same_is g.means_s (value_at m.tables.state i) (Present g.start) (d.state i l); ties = tt }
+  tied (made {m = m} v d) = record { stage = d.stage; holds = λ i l s. same_is g.means_s (value_at m.tables.state i) (Some g.start) (d.state i l); ties = tt }
   tied (done {h = h} {m = m} {m' = m'} c came turn on owed v d) =
       let before = tied came in
       let e = in_turn_tied c (model g h) m before turn in

@@ -1,10 +1,8 @@
 -- Steady sensors: each is a candidate, and most of them bracket the mid-value.
-use Rattle.std.proofs.Common.{◌≡◌, ℕ, ◌*◌, ◌<◌, Bool, ◌&&◌, T, ltb, sym, subst, arith, ltb→lt, lt→ltb}
+use Rattle.std.proofs.Common.{◌≡◌, ℕ, ◌*◌, ◌<◌, Bool, ◌&&◌, T, ltb, sym, subst, arith, ltb→lt, lt→ltb, Option, Some, None}
 use Rattle.quorum.specs.Counting.{count}
 use Rattle.quorum.proofs.Counts.{both, join, bool_same, count_same, count_some}
 use Rattle.values.specs.Entries.{SameEntry, entry_at}
-use Rattle.values.specs.declared.Entry.{Entry}
-use Rattle.values.specs.declared.Entry.TheVariants.{Present, Missing}
 use Rattle.selections.specs.Choices.{candidate}
 use Rattle.selections.specs.Rules.{at_most}
 use Rattle.selections.specs.Middle.{mid_rule, mid_bracketed}
@@ -16,21 +14,21 @@ use Rattle.protocol.proofs.Quorums.{Admitted}
 use Rattle.protocol.proofs.Cycle.{readings_length, readings_short, candidate_at, candidate_present, steady_candidate, steady_reading}
 
 module _ {R M : Type 0} (means : R → M) (leq : R → R → Bool) (order : TotalOrder means leq) where
-  at_most_low : (e d : Entry R) (y x : R) → T (at_most leq e d) → SameEntry means e (Present y) → d ≡ Present x → T (leq y x)
-  at_most_low Missing d y x t same is = absurd same
-  at_most_low (Present z) d y x t same is =
-      order.transitive y z x (order.congruent y z (sym same)) (subst (λ (b : Entry R). T (at_most leq (Present z) b)) is t)
+  at_most_low : (e d : Option R) (y x : R) → T (at_most leq e d) → SameEntry means e (Some y) → d ≡ Some x → T (leq y x)
+  at_most_low None d y x t same is = absurd same
+  at_most_low (Some z) d y x t same is =
+      order.transitive y z x (order.congruent y z (sym same)) (subst (λ (b : Option R). T (at_most leq (Some z) b)) is t)
 
-  at_most_high : (e d : Entry R) (x y : R) → T (at_most leq e d) → e ≡ Present x → SameEntry means d (Present y) → T (leq x y)
-  at_most_high e Missing x y t is same = absurd same
-  at_most_high e (Present z) x y t is same =
-      order.transitive x z y (subst (λ (b : Entry R). T (at_most leq b (Present z))) is t) (order.congruent z y same)
+  at_most_high : (e d : Option R) (x y : R) → T (at_most leq e d) → e ≡ Some x → SameEntry means d (Some y) → T (leq x y)
+  at_most_high e None x y t is same = absurd same
+  at_most_high e (Some z) x y t is same =
+      order.transitive x z y (subst (λ (b : Option R). T (at_most leq b (Some z))) is t) (order.congruent z y same)
 
 module _ {R S C : Type 0} {g : Config R S C} (ok : Admitted g) (p : Model R S) where
   open g use {sensors, means_r}
 
-  read : (k : ℕ) → k < sensors → (s : Steady g p k) → SameEntry means_r (entry_at (readings g p) k) (Present s.0)
-  read k l s = subst (λ (e : Entry R). SameEntry means_r e (Present s.0)) (sym (candidate_at ok p k l (steady_candidate ok p k s))) (steady_reading ok p k s)
+  read : (k : ℕ) → k < sensors → (s : Steady g p k) → SameEntry means_r (entry_at (readings g p) k) (Some s.0)
+  read k l s = subst (λ (e : Option R). SameEntry means_r e (Some s.0)) (sym (candidate_at ok p k l (steady_candidate ok p k s))) (steady_reading ok p k s)
 
   module _ (leq : R → R → Bool) (order : TotalOrder means_r leq) (rule : IsMidValue leq p.rule) (set : ℕ → Bool)
       (steady : (k : ℕ) → k < sensors → T (set k) → Steady g p k) (most : sensors < 2 * count sensors set) where
@@ -50,7 +48,7 @@ module _ {R S C : Type 0} {g : Config R S C} (ok : Admitted g) (p : Model R S) w
     inner_most =
         omega (arith, most, count_same sensors set inner (λ k l. bool_same (set k) (inner k) (λ t. join (ltb k sensors) (set k) (lt→ltb k sensors l) t) (λ t. (both (ltb k sensors) (set k) t).1)))
 
-    bracketed : (x : R) × (chosen_reading g p ≡ Present x) × Brackets g p leq set x
+    bracketed : (x : R) × (chosen_reading g p ≡ Some x) × Brackets g p leq set x
     bracketed =
         let v = chosen_sensor g p in
         let mid = rule (readings g p) (readings_short ok p) in

@@ -1,13 +1,11 @@
 -- How the tables stand to the model at each stage, and that intake, filter, agree and select keep it so.
-use Rattle.std.proofs.Common.{◌≡◌, ℕ, zero, suc, ◌+◌, ◌-◌, ◌*◌, ◌<◌, Bool, true, false, cond, T, leb, List, length, get_or, sym, refl, ap, ◌∙◌, subst, inl, inr, arith}
+use Rattle.std.proofs.Common.{◌≡◌, ℕ, zero, suc, ◌+◌, ◌-◌, ◌*◌, ◌<◌, Bool, true, false, cond, T, leb, List, length, get_or, sym, refl, ap, ◌∙◌, subst, inl, inr, arith, Option, Some, None}
 use Rattle.std.proofs.lemmas.Bool.{cases_lt, eqb-true}
 use Rattle.quorum.specs.Counting.{bit, count}
 use Rattle.quorum.proofs.Counts.{join, is_yes, count_same}
 use Rattle.layers.specs.Layers.{Sound}
 use Rattle.values.specs.Entries.{present, SameEntry, entry_at, carries}
 use Rattle.values.specs.Majority.{majority}
-use Rattle.values.specs.declared.Entry.{Entry}
-use Rattle.values.specs.declared.Entry.TheVariants.{Present, Missing}
 use Rattle.values.proofs.Meanings.{same_trans, same_present}
 use Rattle.selections.specs.Choices.{Chooses}
 use Rattle.protocol.specs.Tables.{table, value_at, Stored, MaskOf}
@@ -49,20 +47,20 @@ module _ {R S C : Type 0} (g : Config R S C) where
   EachSpot holds = (i k : ℕ) → i < n → Sound marks i → k < sensors → holds i k (i * sensors + k)
 
   module _ (p : Model R S) where
-    abbrev pub OwnTie : List (Entry R) → Type 0
+    abbrev pub OwnTie : List (Option R) → Type 0
     OwnTie xs = EachSpot (λ i k q. entry_at xs q ≡ own g p i k)
 
     abbrev pub RunTie : List S → Type 0
-    RunTie xs = EachSpot (λ i k q. (x : R) → own g p i k ≡ Present x → SameEntry means_s (value_at xs q) (Present (g.stepped p.state x)))
+    RunTie xs = EachSpot (λ i k q. (x : R) → own g p i k ≡ Some x → SameEntry means_s (value_at xs q) (Some (g.stepped p.state x)))
 
-    abbrev pub HeardTie : List (Entry R) → Type 0
+    abbrev pub HeardTie : List (Option R) → Type 0
     HeardTie xs = EachSpot (λ i k q. (j : ℕ) → j < n → entry_at xs ((i * n + j) * sensors + k) ≡ heard g p i j k)
 
     abbrev pub AcceptTie : List Bool → Type 0
     AcceptTie xs = EachSpot (λ i k q. get_or xs q false ≡ accept g p i k)
 
-    abbrev pub AgreedTie : List (Entry R) → Type 0
-    AgreedTie xs = EachSpot (λ i k q. SameEntry means_r (entry_at xs q) (cond (is_candidate g p k) (reading g p k) Missing))
+    abbrev pub AgreedTie : List (Option R) → Type 0
+    AgreedTie xs = EachSpot (λ i k q. SameEntry means_r (entry_at xs q) (cond (is_candidate g p k) (reading g p k) None))
 
     abbrev pub CandidatesTie : List ℕ → Type 0
     CandidatesTie xs = EachSound g (λ i. MaskOf sensors (is_candidate g p) (get_or xs i 0))
@@ -111,22 +109,22 @@ module _ {R S C : Type 0} (g : Config R S C) where
   ties_at p m h s e = subst (λ (t : Stage). TiesAt p t m.tables) (stage_is p.stage s e) h.ties
 
   pub holds_kept : (s : S) (m m' : Moment R S C) → m'.tables.state ≡ m.tables.state → Holds g s m → Holds g s m'
-  holds_kept s m m' e h i l t = subst (λ (xs : List S). SameEntry means_s (value_at xs i) (Present s)) (sym e) (h i l t)
+  holds_kept s m m' e h i l t = subst (λ (xs : List S). SameEntry means_s (value_at xs i) (Some s)) (sym e) (h i l t)
 
 -- ---- the calls
 
 module _ {R S C : Type 0} {g : Config R S C} (ok : Admitted g) (p : Model R S) (m m' : Moment R S C) where
   open g use {n, f, sensors, marks, means_r, means_s, alike_r}
 
-  stored_step : (e : Entry S) (s : S) (o : Entry R) (x : R) (q : ℕ) → SameEntry means_s e (Present s) → o ≡ Present x
-      → Stored means_s (step_of g e o) m.tables.run m'.tables.run q → SameEntry means_s (value_at m'.tables.run q) (Present (g.stepped s x))
-  stored_step Missing s o x q h e w = absurd h
-  stored_step (Present t) s o x q h e w =
-      same_trans means_s (value_at m'.tables.run q) (Present (g.stepped t x)) (Present (g.stepped s x))
-      (subst (λ (d : Entry R). Stored means_s (step_of g (Present t) d) m.tables.run m'.tables.run q) e w)
+  stored_step : (e : Option S) (s : S) (o : Option R) (x : R) (q : ℕ) → SameEntry means_s e (Some s) → o ≡ Some x
+      → Stored means_s (step_of g e o) m.tables.run m'.tables.run q → SameEntry means_s (value_at m'.tables.run q) (Some (g.stepped s x))
+  stored_step None s o x q h e w = absurd h
+  stored_step (Some t) s o x q h e w =
+      same_trans means_s (value_at m'.tables.run q) (Some (g.stepped t x)) (Some (g.stepped s x))
+      (subst (λ (d : Option R). Stored means_s (step_of g (Some t) d) m.tables.run m'.tables.run q) e w)
       (ok.laws.stepping t s x x h refl)
 
-  pub intake_keeps : (z : Sizes) (es : List (Entry R)) → Tied g p m → TakesIn g m m' es → Tied g (advance g (intake z es) p) m'
+  pub intake_keeps : (z : Sizes) (es : List (Option R)) → Tied g p m → TakesIn g m m' es → Tied g (advance g (intake z es) p) m'
   unfolding advance
   intake_keeps z es h d = record {
     stage = d.stage;
@@ -137,12 +135,12 @@ module _ {R S C : Type 0} {g : Config R S C} (ok : Admitted g) (p : Model R S) (
     };
   }
 
-  accepts_same : (e : Entry R) (h h' : ℕ → Entry R) → ((j : ℕ) → j < n → h j ≡ h' j) → accepts g e h ≡ accepts g e h'
-  accepts_same Missing h h' same = refl
-  accepts_same (Present x) h h' same =
-      ap (λ (v : ℕ). leb (n - f) v) (count_same n (λ j. carries alike_r x (h j)) (λ j. carries alike_r x (h' j)) (λ j l. ap (λ (e : Entry R). carries alike_r x e) (same j l)))
+  accepts_same : (e : Option R) (h h' : ℕ → Option R) → ((j : ℕ) → j < n → h j ≡ h' j) → accepts g e h ≡ accepts g e h'
+  accepts_same None h h' same = refl
+  accepts_same (Some x) h h' same =
+      ap (λ (v : ℕ). leb (n - f) v) (count_same n (λ j. carries alike_r x (h j)) (λ j. carries alike_r x (h' j)) (λ j l. ap (λ (e : Option R). carries alike_r x e) (same j l)))
 
-  pub filter_keeps : (z : Sizes) (cs : List (Entry R)) → Tied g p m → AfterIntake g p m.tables → Filters g m m' cs → Tied g (advance g (filter z cs) p) m'
+  pub filter_keeps : (z : Sizes) (cs : List (Option R)) → Tied g p m → AfterIntake g p m.tables → Filters g m m' cs → Tied g (advance g (filter z cs) p) m'
   unfolding advance accept
   filter_keeps z cs h a d =
       let p' = advance g (filter z cs) p in
@@ -157,17 +155,17 @@ module _ {R S C : Type 0} {g : Config R S C} (ok : Admitted g) (p : Model R S) (
           heard = hears;
           accept = λ i k l s c.
               clear_at (bit marks i) _ _ s (d.accept i k l c)
-              ∙ ap (λ (e : Entry R). accepts g e (λ j. entry_at m'.tables.heard (heard_place g m m' i j k))) (a.own i k l s c)
+              ∙ ap (λ (e : Option R). accepts g e (λ j. entry_at m'.tables.heard (heard_place g m m' i j k))) (a.own i k l s c)
               ∙ accepts_same (own g p i k) (λ j. entry_at m'.tables.heard (heard_place g m m' i j k)) (λ j. heard g p' i j k) (hears i k l s c);
         };
       }
 
-  outcome_is : (c a : Bool) (o v r : Entry R) → (T c → T a → SameEntry means_r o r) → (T c → SameEntry means_r v r) → SameEntry means_r (cond c (cond a o v) Missing) (cond c r Missing)
+  outcome_is : (c a : Bool) (o v r : Option R) → (T c → T a → SameEntry means_r o r) → (T c → SameEntry means_r v r) → SameEntry means_r (cond c (cond a o v) None) (cond c r None)
   outcome_is true true o v r h k = h tt tt
   outcome_is true false o v r h k = k tt
   outcome_is false a o v r h k = tt
 
-  present_is : (b : Bool) (e : Entry R) → (T b → T (present e)) → present (cond b e Missing) ≡ b
+  present_is : (b : Bool) (e : Option R) → (T b → T (present e)) → present (cond b e None) ≡ b
   present_is true e h = is_yes (present e) (h tt)
   present_is false e h = refl
 
@@ -207,18 +205,18 @@ module _ {R S C : Type 0} {g : Config R S C} (ok : Admitted g) (p : Model R S) (
     agreed_tie i k l s c =
         let q = i * sensors + k in
         let y : ℕ → Bool = bit (get_or m'.tables.yes q 0) in
-        let told : ℕ → Entry R = λ j. cond (y j) (entry_at m.tables.heard (heard_place g m m' i j k)) Missing in
+        let told : ℕ → Option R = λ j. cond (y j) (entry_at m.tables.heard (heard_place g m m' i j k)) None in
         let same_told : (j : ℕ) → j < n → told j ≡ heard_from g p' i k j = λ j lj.
-        ap (λ (b : Bool). cond b (entry_at m.tables.heard (heard_place g m m' i j k)) Missing) (yes_is i k l s c j lj)
-        ∙ ap (λ (e : Entry R). cond (yes_bit g p' i k j) e Missing) (heard_tie i k l s c j lj) in
+        ap (λ (b : Bool). cond b (entry_at m.tables.heard (heard_place g m m' i j k)) None) (yes_is i k l s c j lj)
+        ∙ ap (λ (e : Option R). cond (yes_bit g p' i k j) e None) (heard_tie i k l s c j lj) in
         let o = entry_at m.tables.own q in
         let v = majority alike_r n told in
         let r = reading g p' k in
-        same_trans means_r (entry_at m'.tables.agreed q) _ (cond (is_candidate g p' k) r Missing)
+        same_trans means_r (entry_at m'.tables.agreed q) _ (cond (is_candidate g p' k) r None)
         (clear_at (bit marks i) _ _ s (d.agreed i k l c))
-        (subst (λ (b : Bool). SameEntry means_r (cond b (cond (accepted g m m' i k) o v) Missing) (cond (is_candidate g p' k) r Missing)) (sym (enough_is i k l s c))
+        (subst (λ (b : Bool). SameEntry means_r (cond b (cond (accepted g m m' i k) o v) None) (cond (is_candidate g p' k) r None)) (sym (enough_is i k l s c))
         (outcome_is (is_candidate g p' k) (accepted g m m' i k) o v r
-        (λ _ t. subst (λ (e : Entry R). SameEntry means_r e r) (sym (own_tie i k l s c))
+        (λ _ t. subst (λ (e : Option R). SameEntry means_r e r) (sym (own_tie i k l s c))
         (good_reading ok p' k i l (join (sound g i) (accept g p' i k) (no_yes (bit marks i) s) (subst T (accept_tie i k l s c) t))))
         (λ t. heard_majority ok p' i k told same_told l s t)))
 
@@ -229,8 +227,8 @@ module _ {R S C : Type 0} {g : Config R S C} (ok : Admitted g) (p : Model R S) (
           below = w.below;
           bits = λ k c.
               w.bits k c
-              ∙ same_present means_r (entry_at m'.tables.agreed (i * sensors + k)) (cond (is_candidate g p' k) (reading g p' k) Missing) (agreed_tie i k l s c)
-              ∙ present_is (is_candidate g p' k) (reading g p' k) (λ t. subst (λ (e : Entry R). T (present e)) (sym (reading_is ok p' k t).1) tt);
+              ∙ same_present means_r (entry_at m'.tables.agreed (i * sensors + k)) (cond (is_candidate g p' k) (reading g p' k) None) (agreed_tie i k l s c)
+              ∙ present_is (is_candidate g p' k) (reading g p' k) (λ t. subst (λ (e : Option R). T (present e)) (sym (reading_is ok p' k t).1) tt);
         }
 
     pub agree_keeps : Tied g p m → Tied g p' m'
@@ -247,15 +245,15 @@ module _ {R S C : Type 0} {g : Config R S C} (ok : Admitted g) (p : Model R S) (
     }
 
   module _ (z : Sizes) (r : Rule R) (rule : Chooses means_r r) (a : AfterAgree g p m.tables) (d : Selects g m m' r) where
-    row : ℕ → List (Entry R)
+    row : ℕ → List (Option R)
     row i = table sensors (λ k. entry_at m.tables.agreed (i * sensors + k))
 
     row_same : (i : ℕ) → i < n → Sound marks i → (k : ℕ) → SameEntry means_r (entry_at (row i) k) (entry_at (readings g p) k)
     unfolding row
     row_same i l s k =
         elim (cases_lt k sensors) [
-          | inl c ↦ rw (table_at sensors (λ k. entry_at m.tables.agreed (i * sensors + k)) Missing k c, readings_at ok p k c) (a.agreed i k l s c)
-          | inr c ↦ rw (table_past sensors (λ k. entry_at m.tables.agreed (i * sensors + k)) Missing k c, readings_past ok p k c) tt
+          | inl c ↦ rw (table_at sensors (λ k. entry_at m.tables.agreed (i * sensors + k)) None k c, readings_at ok p k c) (a.agreed i k l s c)
+          | inr c ↦ rw (table_past sensors (λ k. entry_at m.tables.agreed (i * sensors + k)) None k c, readings_past ok p k c) tt
         ]
 
     row_length : (i : ℕ) → length (row i) ≡ sensors

@@ -1,19 +1,17 @@
 -- What outvotes the faulty.
-use Rattle.std.proofs.Common.{◌≡◌, ℕ, ◌<◌, ◌≤◌, Bool, not, ◌&&◌, T, Decides, arith}
+use Rattle.std.proofs.Common.{◌≡◌, ℕ, ◌<◌, ◌≤◌, Bool, not, ◌&&◌, T, Decides, arith, Option, Some}
 use Rattle.quorum.specs.Counting.{count}
 use Rattle.quorum.proofs.Counts.{both, count_mono, count_split}
 use Rattle.values.specs.Entries.{present, carries, SameEntry}
 use Rattle.values.specs.Majority.{majority}
-use Rattle.values.specs.declared.Entry.{Entry}
-use Rattle.values.specs.declared.Entry.TheVariants.{Present}
 use Rattle.values.proofs.Meanings.{same_carries}
 use Rattle.values.proofs.Majorities.{majority_is, voted}
 
 -- More than f good entries that carry x outvote at most f unsound ones: the majority is x.
 pub outvoted : {V M : Type 0} (means : V → M) (alike : V → V → Bool) → ((x y : V) → Decides (alike x y) (means x ≡ means y))
-    → (n f : ℕ) (entry : ℕ → Entry V) (sound good : ℕ → Bool) (x : V) → count n (λ i. not (sound i)) ≤ f → f < count n good
-    → ((i : ℕ) → i < n → T (sound i) → T (present (entry i)) → T (good i)) → ((i : ℕ) → i < n → T (good i) → SameEntry means (entry i) (Present x))
-    → SameEntry means (majority alike n entry) (Present x)
+    → (n f : ℕ) (entry : ℕ → Option V) (sound good : ℕ → Bool) (x : V) → count n (λ i. not (sound i)) ≤ f → f < count n good
+    → ((i : ℕ) → i < n → T (sound i) → T (present (entry i)) → T (good i)) → ((i : ℕ) → i < n → T (good i) → SameEntry means (entry i) (Some x))
+    → SameEntry means (majority alike n entry) (Some x)
 outvoted means alike law n f entry sound good x few many silent say =
     let here : ℕ → Bool = λ i. present (entry i) in
     let parts = count_split n here sound in

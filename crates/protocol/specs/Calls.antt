@@ -1,10 +1,8 @@
 -- What each accepted call does to the tables, and what it answers.
-use Rattle.std.specs.Prelude.{◌≡◌, ℕ, ◌+◌, ◌*◌, ◌<◌, Bool, false, cond, ◌&&◌, List, slice_index, slice_index_or}
+use Rattle.std.specs.Prelude.{◌≡◌, ℕ, ◌+◌, ◌*◌, ◌<◌, Bool, false, cond, ◌&&◌, List, slice_index, slice_index_or, Option, Some, None}
 use Rattle.quorum.specs.Counting.{bit, count}
 use Rattle.values.specs.Entries.{present, SameEntry, entry_at}
 use Rattle.values.specs.Majority.{majority}
-use Rattle.values.specs.declared.Entry.{Entry}
-use Rattle.values.specs.declared.Entry.TheVariants.{Present, Missing}
 use Rattle.protocol.specs.Tables.{table, value_at, Kept, Stored, ByBit, MaskOf}
 use Rattle.protocol.specs.Setup.{Config, sound, lowest_sound, Rule, Tables, sizes, rest, taken_in, filtered, agreed, chosen, Outcome, outcome, told, Moment}
 use Rattle.protocol.specs.Model.{accepts, delivers, agrees}
@@ -26,15 +24,15 @@ module _ {R S C : Type 0} (g : Config R S C) where
   Writes i before after p written = ByBit (bit marks i) (Kept before after p) written
 
   -- a state stepped by a reading, where there are both
-  abbrev pub step_of : Entry S → Entry R → Entry S
-  step_of Missing e = Missing
-  step_of (Present s) Missing = Missing
-  step_of (Present s) (Present x) = Present (g.stepped s x)
+  abbrev pub step_of : Option S → Option R → Option S
+  step_of None e = None
+  step_of (Some s) None = None
+  step_of (Some s) (Some x) = Some (g.stepped s x)
 
   -- Making writes the starting state to all places of state.
   pub record Makes (m : Moment R S C) : Type 0 where
     pub stage : m.stage ≡ rest
-    pub state : EachReplica (λ i. value_at m.tables.state i ≡ Present g.start)
+    pub state : EachReplica (λ i. value_at m.tables.state i ≡ Some g.start)
 
   module _ (m m' : Moment R S C) where
     -- the tables at the call
@@ -46,7 +44,7 @@ module _ {R S C : Type 0} (g : Config R S C) where
     after = m'.tables
 
     -- Own is the entry; run is the state stepped by own, and is not written where own is missing.
-    pub record TakesIn (entries : List (Entry R)) : Type 0 where
+    pub record TakesIn (entries : List (Option R)) : Type 0 where
       pub stage : m'.stage ≡ taken_in
       pub sizes : sizes after ≡ sizes before
       pub own : EachPlace (λ i k p. Writes i before.own after.own p (entry_at after.own p ≡ entry_at entries p))
@@ -60,7 +58,7 @@ module _ {R S C : Type 0} (g : Config R S C) where
       pub chosen : after.chosen ≡ before.chosen
 
     -- what i is told by j about k: a sound replica's own, a faulty one's claim
-    abbrev pub told_by : List (Entry R) → ℕ → ℕ → ℕ → Entry R
+    abbrev pub told_by : List (Option R) → ℕ → ℕ → ℕ → Option R
     told_by claims i j k = cond (bit marks j) (entry_at claims ((j * n + i) * sensors + k)) (entry_at before.own (j * sensors + k))
 
     -- the place of what i heard from j about k
@@ -68,7 +66,7 @@ module _ {R S C : Type 0} (g : Config R S C) where
     heard_place i j k = (i * n + j) * sensors + k
 
     -- Heard is a sound replica's own and a faulty one's claim; own is accepted when enough of what was heard is the same.
-    pub record Filters (claims : List (Entry R)) : Type 0 where
+    pub record Filters (claims : List (Option R)) : Type 0 where
       pub stage : m'.stage ≡ filtered
       pub sizes : sizes after ≡ sizes before
       pub heard : EachReplica (λ j. EachPlace (λ i k p. Writes i before.heard after.heard (heard_place i j k) (entry_at after.heard (heard_place i j k) ≡ told_by claims i j k)))
@@ -118,7 +116,7 @@ module _ {R S C : Type 0} (g : Config R S C) where
       pub candidates : after.candidates ≡ before.candidates
 
     -- The states go on; the vote, the choice of the lowest sound replica, and how many took a dispersed state are answered.
-    pub record Commits (states : List (Entry S)) (commands : List (Entry C)) : Type 0 where
+    pub record Commits (states : List (Option S)) (commands : List (Option C)) : Type 0 where
       pub stage : m'.stage ≡ rest
       pub sizes : sizes after ≡ sizes before
       pub state : EachReplica (λ i. Writes i before.state after.state i (Stored means_s (next_state g before states i) before.state after.state i))
@@ -148,4 +146,4 @@ module _ {R S C : Type 0} (g : Config R S C) where
       pub tables : after ≡ before
       pub state : S
       pub answered : m'.answer ≡ told state
-      pub told_state : SameEntry means_s (Present state) (value_at before.state i)
+      pub told_state : SameEntry means_s (Some state) (value_at before.state i)

@@ -1,10 +1,8 @@
 -- The reference model: what the calls are given, worked out once for all replicas.
-use Rattle.std.specs.Prelude.{ℕ, ◌+◌, ◌-◌, ◌*◌, Bool, true, false, cond, ◌&&◌, List, [], ◌∷◌, length, take, drop, ◌==◌, nat_le, nat_lt}
+use Rattle.std.specs.Prelude.{ℕ, ◌+◌, ◌-◌, ◌*◌, Bool, true, false, cond, ◌&&◌, List, [], ◌∷◌, length, take, drop, ◌==◌, nat_le, nat_lt, Option, Some, None}
 use Rattle.quorum.specs.Counting.{bit, count, lowest}
 use Rattle.values.specs.Entries.{entry_at, matches}
 use Rattle.values.specs.Majority.{majority}
-use Rattle.values.specs.declared.Entry.{Entry}
-use Rattle.values.specs.declared.Entry.TheVariants.{Present, Missing}
 use Rattle.selections.specs.Choices.{no_sensor}
 use Rattle.protocol.specs.Tables.{table}
 use Rattle.protocol.specs.Setup.{Config, sound, lowest_sound, Rule, Sizes, Call, intake, filter, agree, select, commit, abandon, look, History, Stage, rest, taken_in, filtered, agreed, chosen}
@@ -15,9 +13,9 @@ module _ {R S C : Type 0} (g : Config R S C) where
   open g use {n, f, alike_r, size, delivered}
 
   -- own is accepted: it is present, and at least n − f of the entries heard are the same
-  abbrev pub accepts : Entry R → (ℕ → Entry R) → Bool
-  accepts Missing heard = false
-  accepts (Present x) heard = nat_le (n - f) (matches alike_r x n heard)
+  abbrev pub accepts : Option R → (ℕ → Option R) → Bool
+  accepts None heard = false
+  accepts (Some x) heard = nat_le (n - f) (matches alike_r x n heard)
 
   -- the words of an instance, fewer where the bytes end
   abbrev pub words_of : List ℕ → ℕ → List ℕ
@@ -28,9 +26,9 @@ module _ {R S C : Type 0} (g : Config R S C) where
   delivers words accept i k j = delivered j (sound g j && accept j k) (words_of words (k * n + j)) i
 
   -- with at least n − f bits set, own where accepted, else the majority of heard from all whose bit is set
-  abbrev pub agrees : (ℕ → Bool) → Bool → Entry R → (ℕ → Entry R) → Entry R
+  abbrev pub agrees : (ℕ → Bool) → Bool → Option R → (ℕ → Option R) → Option R
   agrees bits accepted own heard =
-      cond (nat_le (n - f) (count n bits)) (cond accepted own (majority alike_r n (λ j. cond (bits j) (heard j) Missing))) Missing
+      cond (nat_le (n - f) (count n bits)) (cond accepted own (majority alike_r n (λ j. cond (bits j) (heard j) None))) None
 
 -- ---- the model
 
@@ -38,8 +36,8 @@ module _ {R S C : Type 0} (g : Config R S C) where
 pub record Model (R S : Type 0) : Type 0 where
   pub stage : Stage
   pub state : S
-  pub entries : List (Entry R)
-  pub claims : List (Entry R)
+  pub entries : List (Option R)
+  pub claims : List (Option R)
   pub words : List ℕ
   pub rule : Rule R
 
@@ -51,11 +49,11 @@ module _ {R S C : Type 0} (g : Config R S C) (p : Model R S) where
   open g use {n, f, sensors, marks}
 
   -- what i gets from sensor k
-  abbrev pub own : ℕ → ℕ → Entry R
+  abbrev pub own : ℕ → ℕ → Option R
   own i k = entry_at p.entries (i * sensors + k)
 
   -- what i hears from j about k
-  abbrev pub heard : ℕ → ℕ → ℕ → Entry R
+  abbrev pub heard : ℕ → ℕ → ℕ → Option R
   heard i j k = cond (bit marks j) (entry_at p.claims ((j * n + i) * sensors + k)) (own j k)
 
   -- i accepts what it gets from k
@@ -75,19 +73,19 @@ module _ {R S C : Type 0} (g : Config R S C) (p : Model R S) where
   acceptor k = lowest n (λ i. sound g i && accept i k)
 
   -- the reading of a candidate k: what that replica gets from it
-  abbrev pub reading : ℕ → Entry R
+  abbrev pub reading : ℕ → Option R
   reading k = own (acceptor k) k
 
   -- the candidates with their readings
-  unfoldable pub readings : List (Entry R)
-  readings = table sensors (λ k. cond (is_candidate k) (reading k) Missing)
+  unfoldable pub readings : List (Option R)
+  readings = table sensors (λ k. cond (is_candidate k) (reading k) None)
 
   -- the selection's answer on the readings
   abbrev pub chosen_sensor : ℕ
   chosen_sensor = p.rule readings
 
   -- its reading, missing where no sensor is chosen
-  abbrev pub chosen_reading : Entry R
+  abbrev pub chosen_reading : Option R
   chosen_reading = entry_at readings chosen_sensor
 
 -- ---- the questions, and the number of the first that is answered no
@@ -140,9 +138,9 @@ module _ {R S C : Type 0} (g : Config R S C) where
   -- ---- what the calls change
 
   -- the state after a reading, the same without one
-  abbrev pub step_by : S → Entry R → S
-  step_by s Missing = s
-  step_by s (Present x) = g.stepped s x
+  abbrev pub step_by : S → Option R → S
+  step_by s None = s
+  step_by s (Some x) = g.stepped s x
 
   -- what an accepted call changes
   unfoldable pub advance : Call R S C → Model R S → Model R S

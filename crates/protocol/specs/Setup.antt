@@ -1,8 +1,7 @@
 -- What a cluster is made with, what its calls are given, and the tables lent to it.
-use Rattle.std.specs.Prelude.{ℕ, ◌<◌, Bool, not, List, length}
+use Rattle.std.specs.Prelude.{ℕ, ◌<◌, Bool, not, List, length, Option}
 use Rattle.quorum.specs.Counting.{bit, lowest}
 use Rattle.layers.specs.Layers.{Sound}
-use Rattle.values.specs.declared.Entry.{Entry}
 
 -- What making is given, with what readings, states and commands mean and what the application and the layer do.
 pub record Config (R S C : Type 0) : Type 1 where
@@ -45,22 +44,22 @@ module _ {R S C : Type 0} (g : Config R S C) where
 
 -- A selection by its meaning: its answer on the sensors' entries, of which the present ones are the candidates.
 abbrev pub Rule : Type 0 → Type 0
-Rule R = List (Entry R) → ℕ
+Rule R = List (Option R) → ℕ
 
 -- The lent tables.
 pub record Tables (R S : Type 0) : Type 0 where
   pub state : List S
-  pub own : List (Entry R)
-  pub agreed : List (Entry R)
+  pub own : List (Option R)
+  pub agreed : List (Option R)
   pub run : List S
   pub accept : List Bool
   pub yes : List ℕ
-  pub heard : List (Entry R)
+  pub heard : List (Option R)
   pub candidates : List ℕ
   pub chosen : List ℕ
 
 -- the lent tables, in the order in which the calls take them
-abbrev pub lent : {R S : Type 0} → List S → List (Entry R) → List (Entry R) → List S → List Bool → List ℕ → List (Entry R) → List ℕ → List ℕ → Tables R S
+abbrev pub lent : {R S : Type 0} → List S → List (Option R) → List (Option R) → List S → List Bool → List ℕ → List (Option R) → List ℕ → List ℕ → Tables R S
 lent state own settled run accept ones heard could picks =
     record { state = state; own = own; agreed = settled; run = run; accept = accept; yes = ones; heard = heard; candidates = could; chosen = picks }
 
@@ -92,11 +91,11 @@ sizes t = record {
 
 -- What each call is given.
 pub data Call (R S C : Type 0) : Type 0 where
-  intake : Sizes → (entries : List (Entry R)) → Call R S C
-  filter : Sizes → (claims : List (Entry R)) → Call R S C
+  intake : Sizes → (entries : List (Option R)) → Call R S C
+  filter : Sizes → (claims : List (Option R)) → Call R S C
   agree : Sizes → (words : List ℕ) → Call R S C
   select : Sizes → Rule R → Call R S C
-  commit : Sizes → (states : List (Entry S)) → (commands : List (Entry C)) → Call R S C
+  commit : Sizes → (states : List (Option S)) → (commands : List (Option C)) → Call R S C
   abandon : Call R S C
   look : Sizes → (replica : ℕ) → Call R S C
 
@@ -114,7 +113,7 @@ pub data Stage : Type 0 where
 
 -- What commit answers.
 pub record Outcome (C : Type 0) : Type 0 where
-  pub vote : Entry C
+  pub vote : Option C
   pub chosen : ℕ
   pub candidates : ℕ
   pub dispersed : ℕ

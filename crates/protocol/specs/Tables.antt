@@ -1,19 +1,17 @@
 -- Tables by place: what a place holds, what is written to it, and a mask made from a test.
-use Rattle.std.specs.Prelude.{◌≡◌, ℕ, zero, suc, ◌^◌, ◌<◌, Bool, true, false, List, [], ◌∷◌, map, slice_index_or}
+use Rattle.std.specs.Prelude.{◌≡◌, ℕ, zero, suc, ◌^◌, ◌<◌, Bool, true, false, List, [], ◌∷◌, map, slice_index_or, Option, Some, None}
 use Rattle.std.specs.List.{range_with_len}
 use Rattle.quorum.specs.Counting.{bit}
 use Rattle.values.specs.Entries.{SameEntry}
-use Rattle.values.specs.declared.Entry.{Entry}
-use Rattle.values.specs.declared.Entry.TheVariants.{Present, Missing}
 
 -- what f has at 0, 1, .. below n
 unfoldable pub table : {X : Type 0} → ℕ → (ℕ → X) → List X
 table n f = map f (range_with_len 0 n)
 
 -- the value at a place as an entry, missing past the end
-abbrev pub value_at : {X : Type 0} → List X → ℕ → Entry X
-value_at [] p = Missing
-value_at (x ∷ xs) zero = Present x
+abbrev pub value_at : {X : Type 0} → List X → ℕ → Option X
+value_at [] p = None
+value_at (x ∷ xs) zero = Some x
 value_at (x ∷ xs) (suc p) = value_at xs p
 
 -- the place keeps its very value
@@ -21,9 +19,9 @@ abbrev pub Kept : {X : Type 0} → List X → List X → ℕ → Type 0
 Kept {X} before after p = (d : X) → slice_index_or after p d ≡ slice_index_or before p d
 
 -- the entry's value is written to the place, by meaning; without one the place keeps its own
-abbrev pub Stored : {X M : Type 0} → (X → M) → Entry X → List X → List X → ℕ → Type 0
-Stored means Missing before after p = Kept before after p
-Stored means (Present x) before after p = SameEntry means (value_at after p) (Present x)
+abbrev pub Stored : {X M : Type 0} → (X → M) → Option X → List X → List X → ℕ → Type 0
+Stored means None before after p = Kept before after p
+Stored means (Some x) before after p = SameEntry means (value_at after p) (Some x)
 
 -- one thing holds where the bit is set, and another where it is not
 abbrev pub ByBit : Bool → Type 0 → Type 0 → Type 0

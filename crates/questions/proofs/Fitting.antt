@@ -1,8 +1,7 @@
 -- From the test on the sizes of tables to each size, and to the verdicts.
-use Rattle.std.proofs.Common.{◌≡◌, ℕ, ◌*◌, ◌<◌, Bool, true, false, not, ◌&&◌, eqb, ltb, List, length, sym, refl, ap, ◌∙◌, ap₂, ltb-true}
+use Rattle.std.proofs.Common.{◌≡◌, ℕ, ◌*◌, ◌<◌, Bool, true, false, not, ◌&&◌, eqb, ltb, List, length, sym, refl, ap, ◌∙◌, ap₂, ltb-true, Option}
 use Rattle.quorum.specs.Counting.{bit}
 use Rattle.std.proofs.lemmas.Bool.{and_parts, eqb-true}
-use Rattle.values.specs.declared.Entry.{Entry}
 use Rattle.protocol.specs.Setup.{Config, Tables, Sizes, sizes, intake, filter, agree, select, commit, look, Rule}
 use Rattle.protocol.specs.Model.{Verdict, granted, refused, ask, tables_size, replica_number, replica_faulty, tables_fit, verdict}
 use Rattle.questions.specs.Questions.{Fits, fits, stage_verdict, look_verdict, then_ask}
@@ -37,11 +36,11 @@ pub making_granted : (v : Verdict) (fit : Bool) → v ≡ granted → fit ≡ tr
 making_granted v fit e h = ap₂ (λ (w : Verdict) (b : Bool). then_ask w (ask b tables_size granted)) e h
 
 module _ {R S C : Type 0} (g : Config R S C) (z : Sizes) where
-  pub verdict-intake : (es : List (Entry R)) → verdict g (intake z es) ≡ stage_verdict (fits g.n g.sensors z) (eqb (length es) (g.n * g.sensors))
+  pub verdict-intake : (es : List (Option R)) → verdict g (intake z es) ≡ stage_verdict (fits g.n g.sensors z) (eqb (length es) (g.n * g.sensors))
   unfolding verdict tables_fit
   verdict-intake es = refl
 
-  pub verdict-filter : (cs : List (Entry R)) → verdict g (filter z cs) ≡ stage_verdict (fits g.n g.sensors z) (eqb (length cs) (g.n * g.n * g.sensors))
+  pub verdict-filter : (cs : List (Option R)) → verdict g (filter z cs) ≡ stage_verdict (fits g.n g.sensors z) (eqb (length cs) (g.n * g.n * g.sensors))
   unfolding verdict tables_fit
   verdict-filter cs = refl
 
@@ -53,7 +52,7 @@ module _ {R S C : Type 0} (g : Config R S C) (z : Sizes) where
   unfolding verdict tables_fit
   verdict-select rule = refl
 
-  pub verdict-commit : (ss : List (Entry S)) (cs : List (Entry C)) → verdict g (commit z ss cs) ≡ stage_verdict (fits g.n g.sensors z) (eqb (length ss) (g.n * g.n) && eqb (length cs) g.n)
+  pub verdict-commit : (ss : List (Option S)) (cs : List (Option C)) → verdict g (commit z ss cs) ≡ stage_verdict (fits g.n g.sensors z) (eqb (length ss) (g.n * g.n) && eqb (length cs) g.n)
   unfolding verdict tables_fit
   verdict-commit ss cs = refl
 

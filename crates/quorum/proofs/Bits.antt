@@ -1,10 +1,10 @@
 -- Bits of a word, and how many are set.
-use Rattle.std.proofs.Common.{◌≡◌, ℕ, zero, suc, ◌+◌, ◌/◌, ◌%◌, ◌^◌, ◌<◌, ◌≤◌, Bool, false, eqb, ap, ◌∙◌, mod-lt, zero-lt-suc, div-one, add-one, one-add, arith, pow_mono, shr-shr, shr_lt}
+use Rattle.std.proofs.Common.{◌≡◌, ℕ, zero, suc, ◌/◌, ◌%◌, ◌^◌, ◌<◌, ◌≤◌, false, eqb, ap, ◌∙◌, mod-lt, zero-lt-suc, div-one, add-one, one-add, arith, pow_mono, shr-shr, shr_lt}
 use native.Mathlib.Nat.{div-eq_of_lt}
 use lib.Arith.{lt-one}
 use lib.Count.{ones, ones_step}
 use Rattle.quorum.specs.Counting.{bit, count}
-use Rattle.quorum.proofs.Counts.{one, count_same}
+use Rattle.quorum.proofs.Counts.{one, count_same, count_first}
 
 -- a word below 2 ^ k has no bit at k or above
 pub bit_above : (word k i : ℕ) → word < 2 ^ k → k ≤ i → bit word i ≡ false
@@ -17,12 +17,6 @@ bit_half word i = ap (λ (x : ℕ). eqb (x % 2) 1) (shr-shr word 1 i ∙ ap (λ 
 
 one_digit : (d : ℕ) → d < 2 → one (eqb d 1) ≡ d
 one_digit d h = grind arith
-
--- the first of n + 1 indices, and then the others
-count_first : (n : ℕ) (p : ℕ → Bool) → count (suc n) p ≡ one (p 0) + count n (λ i. p (suc i))
-unfolding count
-count_first zero p = omega arith
-count_first (suc n) p = omega (arith, count_first n p)
 
 -- what `count_ones` answers
 pub ones_count : (n word : ℕ) → word < 2 ^ n → ones word ≡ count n (bit word)

@@ -1,5 +1,8 @@
 -- Laws of `count` and `lowest`.
-use Rattle.std.proofs.Common.{◌≡◌, ℕ, zero, suc, ◌+◌, ◌<◌, ◌≤◌, Bool, true, false, cond, not, ◌&&◌, T, sym, refl, ap, subst, inl, inr, le_refl, eq-zero-or-pos, add-one, arith}
+use Rattle.std.proofs.Common.{◌≡◌, ℕ, zero, suc, ◌+◌, ◌<◌, ◌≤◌, Bool, true, false, cond, not, ◌&&◌, T, sym, refl, ap, subst, inl, inr, le_refl, eq-zero-or-pos, add-one, Option, Some, None, MatchOption, unwrap_or, map, filter, length, List, [], ◌∷◌, slice_index_or, map-id, ◌∙◌, arith}
+use Rattle.std.specs.List.{sum_by, count_by, range_with_len}
+use Rattle.std.proofs.lemmas.List.FromFn.{sum_by-map-range_with_len_more}
+use Rattle.std.proofs.lemmas.List.Sums.{length-filter}
 use native.Mathlib.Decide.{le_ind}
 use Rattle.std.proofs.lemmas.Bool.{cases_eq, cases_lt, not_from_false}
 use Rattle.quorum.specs.Counting.{count, lowest}
@@ -150,9 +153,37 @@ count_yes n p h = let e : one (p n) ≡ 1 = ap one h in omega (arith, count_more
 pub count_no : (n : ℕ) (p : ℕ → Bool) → p n ≡ false → count (n + 1) p ≡ count n p
 count_no n p h = let e : one (p n) ≡ 0 = ap one h in omega (arith, count_more n p)
 
+-- the first of n + 1 indices, and then the others
+pub count_first : (n : ℕ) (p : ℕ → Bool) → count (suc n) p ≡ one (p 0) + count n (λ i. p (suc i))
+unfolding count
+count_first zero p = omega arith
+count_first (suc n) p = omega (arith, count_first n p)
+
 -- fewer indices, no larger count
 pub count_reach : (p : ℕ → Bool) (m n : ℕ) → m ≤ n → count m p ≤ count n p
 count_reach p m n h = le_ind (λ (k : ℕ). count m p ≤ count k p) (le_refl (count m p)) (λ k _ ih. rw (← add-one k) (omega (arith, count_more k p))) n h
+
+kept : (n : ℕ) (p : ℕ → Bool) → sum_by (λ i. one (p i)) (map (λ i. i) (range_with_len 0 n)) ≡ count n p
+kept zero p = sym (count_zero p)
+kept (suc n) p =
+    subst (λ (k : ℕ). sum_by (λ i. one (p i)) (map (λ i. i) (range_with_len 0 k)) ≡ count k p) (add-one n)
+    (omega (arith, sum_by-map-range_with_len_more (λ i. one (p i)) (λ i. i) 0 n n (omega arith), kept n p, count_more n p))
+
+-- what a filter keeps of 0..n is as many as pass its test
+pub count_kept : (n : ℕ) (p : ℕ → Bool) → length (filter p (range_with_len 0 n)) ≡ count n p
+count_kept n p = length-filter p (range_with_len 0 n) ∙ ap (count_by p) (sym (map-id (range_with_len 0 n))) ∙ kept n p
+
+-- what a filter keeps of a list is as many as its places that pass
+pub count_places : {A : Type 0} (xs : List A) (p : A → Bool) (d : A) → length (filter p xs) ≡ count (length xs) (λ i. p (slice_index_or xs i d))
+count_places [] p d = sym (count_zero _)
+count_places {A} (x ∷ xs) p d =
+    let first : count (suc (length xs)) (λ i. p (slice_index_or (x ∷ xs) i d)) ≡ one (p x) + count (length xs) (λ i. p (slice_index_or xs i d)) =
+    count_first (length xs) (λ i. p (slice_index_or (x ∷ xs) i d)) in
+    kept_more (p x) x (filter p xs) ∙ ap (λ (k : ℕ). one (p x) + k) (count_places xs p d) ∙ sym first
+  where
+    kept_more : (b : Bool) (y : A) (ys : List A) → length (cond b (y ∷ ys) ys) ≡ one b + length ys
+    kept_more true y ys = omega arith
+    kept_more false y ys = omega arith
 
 pub counting_laws : CountingLaws
 counting_laws = record { monotone = count_mono; complement = count_not; overlap = count_overlap; witness = count_some }
@@ -209,3 +240,12 @@ lowest_some n p i l t =
 
 pub lowest_none : (n : ℕ) (p : ℕ → Bool) → ((i : ℕ) → i < n → T (p i) → ⊥) → lowest n p ≡ n
 lowest_none n p h = sym (lowest_unique n p n record { within = omega arith; passes = λ l. absurd (omega arith); before = h })
+
+-- what a search from below finds
+pub lowest_found : (n : ℕ) (p : ℕ → Bool) (r : Option ℕ)
+    → MatchOption r ((k : ℕ) → 0 ≤ k → k < n → p k ≡ false) (λ i. (0 ≤ i) × (i < n) × (p i ≡ true) × ((k : ℕ) → 0 ≤ k → k < i → p k ≡ false))
+    → Lowest n p (unwrap_or r n)
+lowest_found n p None none =
+    record { within = omega arith; passes = λ l. absurd (omega arith); before = λ j l t. subst T (none j (omega arith) l) t }
+lowest_found n p (Some i) found =
+    record { within = omega (arith, found.1); passes = λ _. yes _ found.2; before = λ j l t. subst T (found.3 j (omega arith) l) t }

@@ -25,12 +25,7 @@ pub fn lowest_set(mask: u16, n: usize) -> usize
     ensures value { result ≡ lowest n (bit mask) }
     ensures is { Lowest n (bit mask) result }
 {
-    for i in 0..n {
-        if is_set(mask, i) {
-            return i;
-        }
-    }
-    n
+    (0..n).find(|i| is_set(mask, *i)).unwrap_or(n)
 }
 
 // How many members two sets of at least a and b members, out of n, share at the least.

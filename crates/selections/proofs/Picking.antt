@@ -2,7 +2,6 @@
 use Rattle.std.proofs.Common.{◌≡◌, ℕ, ◌+◌, ◌<◌, Bool, false, ◌||◌, T, List, length, Some, None, Option, sym, refl, subst, inl, inr, arith}
 use Rattle.std.proofs.lemmas.Bool.{cases_Bool, cases_eq}
 use Rattle.quorum.proofs.Counts.{yes}
-use Rattle.values.specs.declared.Entry.{Entry}
 use Rattle.selections.specs.Choices.{no_sensor, candidate}
 use Rattle.selections.specs.Rules.{below, reached, middle, mid_value}
 use Rattle.selections.specs.Picks.{Picked}
@@ -13,7 +12,7 @@ module _ {R M : Type 0} (means : R → M) (leq : R → R → Bool)
     (total : (x y : R) → T (leq x y || leq y x))
     (transitive : (x y z : R) → T (leq x y) → T (leq y z) → T (leq x z))
     (congruent : (x y : R) → means x ≡ means y → T (leq x y))
-    (readings : List (Entry R)) where
+    (readings : List (Option R)) where
   abbrev r : ℕ → Bool
   r = reached leq readings
 

@@ -1,5 +1,5 @@
 -- The mid-value: it exists where there is a candidate, and lies within any set of candidates that is more than half of all sensors.
-use Rattle.std.specs.Prelude.{◌≡◌, ℕ, zero, suc, ◌+◌, ◌*◌, ◌/◌, ◌<◌, ◌≤◌, Bool, true, false, not, ◌&&◌, ◌||◌, T, ◌⊎◌, List, length, ◌==◌, nat_le, slice_index_or, refl}
+use Rattle.std.specs.Prelude.{◌≡◌, ℕ, zero, suc, ◌+◌, ◌*◌, ◌/◌, ◌<◌, ◌≤◌, Bool, true, false, not, ◌&&◌, ◌||◌, T, ◌⊎◌, List, length, ◌==◌, nat_le, slice_index_or, refl, Option, Some, None}
 use Rattle.std.proofs.Common.{sym, ap, subst, ◌∙◌, arith, leb→le, le→leb, eqb→eq, T_not}
 use Rattle.std.proofs.Math.Logic.{inl, inr}
 use Rattle.std.proofs.lemmas.List.{get_or_read}
@@ -7,18 +7,16 @@ use Rattle.std.proofs.lemmas.Bool.{cases_lt, cases_eq}
 use Rattle.quorum.specs.Counting.{count}
 use Rattle.quorum.proofs.Counts.{both, join, bool_same, count_mono, count_same, count_le, count_within, count_split, count_some, count_pos, count_none}
 use Rattle.values.specs.Entries.{present, entry_at, SameEntry}
-use Rattle.values.specs.declared.Entry.{Entry}
-use Rattle.values.specs.declared.Entry.TheVariants.{Present, Missing}
 use Rattle.values.proofs.Meanings.{same_present}
 use Rattle.selections.specs.Choices.{no_sensor, candidate, Chooses}
 use Rattle.selections.specs.Rules.{at_most, below, half, rank, reached, middle, mid_value, MidValued, Between, Bracketed}
 use Rattle.selections.specs.Sensors.{candidate_below, sensor_some, sensor_none, sensor_same}
 
 -- what code reads at j and k says how their readings compare
-pub below_read : {R : Type 0} (leq : R → R → Bool) (readings : List (Entry R)) (j k : ℕ) (e d : Entry R) → j < length readings → k < length readings
+pub below_read : {R : Type 0} (leq : R → R → Bool) (readings : List (Option R)) (j k : ℕ) (e d : Option R) → j < length readings → k < length readings
     → e ≡ slice_index_or readings j e → d ≡ slice_index_or readings k d → at_most leq e d ≡ below leq readings j k
 below_read {R} leq readings j k e d lj lk ej dk =
-    ap (λ (z : Entry R). at_most leq z d) (get_or_read readings j e lj ej Missing) ∙ ap (at_most leq (entry_at readings j)) (get_or_read readings k d lk dk Missing)
+    ap (λ (z : Option R). at_most leq z d) (get_or_read readings j e lj ej None) ∙ ap (at_most leq (entry_at readings j)) (get_or_read readings k d lk dk None)
 
 or_cases : (a b : Bool) → T (a || b) → T a ⊎ T b
 or_cases true b t = inl tt
@@ -59,35 +57,35 @@ module _ {R M : Type 0} (means : R → M) (leq : R → R → Bool)
     (congruent : (x y : R) → means x ≡ means y → T (leq x y)) where
   -- ---- the order, on entries
 
-  entry_total : (e d : Entry R) → T (present e) → T (present d) → T (at_most leq e d) ⊎ T (at_most leq d e)
-  entry_total Missing d s t = absurd s
-  entry_total (Present x) Missing s t = absurd t
-  entry_total (Present x) (Present y) s t = or_cases (leq x y) (leq y x) (total x y)
+  entry_total : (e d : Option R) → T (present e) → T (present d) → T (at_most leq e d) ⊎ T (at_most leq d e)
+  entry_total None d s t = absurd s
+  entry_total (Some x) None s t = absurd t
+  entry_total (Some x) (Some y) s t = or_cases (leq x y) (leq y x) (total x y)
 
-  entry_along : (e d b : Entry R) → T (at_most leq e d) → T (at_most leq d b) → T (at_most leq e b)
-  entry_along Missing d b s t = absurd s
-  entry_along (Present x) Missing b s t = absurd s
-  entry_along (Present x) (Present y) Missing s t = absurd t
-  entry_along (Present x) (Present y) (Present z) s t = transitive x y z s t
+  entry_along : (e d b : Option R) → T (at_most leq e d) → T (at_most leq d b) → T (at_most leq e b)
+  entry_along None d b s t = absurd s
+  entry_along (Some x) None b s t = absurd s
+  entry_along (Some x) (Some y) None s t = absurd t
+  entry_along (Some x) (Some y) (Some z) s t = transitive x y z s t
 
-  entry_present : (e d : Entry R) → T (at_most leq e d) → T (present e) × T (present d)
-  entry_present Missing d t = absurd t
-  entry_present (Present x) Missing t = absurd t
-  entry_present (Present x) (Present y) t = (tt, tt)
+  entry_present : (e d : Option R) → T (at_most leq e d) → T (present e) × T (present d)
+  entry_present None d t = absurd t
+  entry_present (Some x) None t = absurd t
+  entry_present (Some x) (Some y) t = (tt, tt)
 
   leq_moves : (x y z v : R) → means x ≡ means z → means y ≡ means v → T (leq x y) → T (leq z v)
   leq_moves x y z v p q t = transitive z x v (congruent z x (sym p)) (transitive x y v t (congruent y v q))
 
-  entry_same : (e d b c : Entry R) → SameEntry means e b → SameEntry means d c → at_most leq e d ≡ at_most leq b c
-  entry_same Missing d Missing c p q = refl
-  entry_same Missing d (Present z) c p q = absurd p
-  entry_same (Present x) d Missing c p q = absurd p
-  entry_same (Present x) Missing (Present z) Missing p q = refl
-  entry_same (Present x) Missing (Present z) (Present v) p q = absurd q
-  entry_same (Present x) (Present y) (Present z) Missing p q = absurd q
-  entry_same (Present x) (Present y) (Present z) (Present v) p q = bool_same (leq x y) (leq z v) (leq_moves x y z v p q) (leq_moves z v x y (sym p) (sym q))
+  entry_same : (e d b c : Option R) → SameEntry means e b → SameEntry means d c → at_most leq e d ≡ at_most leq b c
+  entry_same None d None c p q = refl
+  entry_same None d (Some z) c p q = absurd p
+  entry_same (Some x) d None c p q = absurd p
+  entry_same (Some x) None (Some z) None p q = refl
+  entry_same (Some x) None (Some z) (Some v) p q = absurd q
+  entry_same (Some x) (Some y) (Some z) None p q = absurd q
+  entry_same (Some x) (Some y) (Some z) (Some v) p q = bool_same (leq x y) (leq z v) (leq_moves x y z v p q) (leq_moves z v x y (sym p) (sym q))
 
-  module _ (readings : List (Entry R)) where
+  module _ (readings : List (Option R)) where
     abbrev n : ℕ
     n = length readings
 
@@ -222,7 +220,7 @@ module _ {R M : Type 0} (means : R → M) (leq : R → R → Bool)
     mid_bracketed v e k t set inside most = between v (mid_rule v e k t) set inside most
 
   -- ---- readings that mean the same are chosen from alike
-  module _ (readings others : List (Entry R)) (e : length readings ≡ length others) (same : (k : ℕ) → SameEntry means (entry_at readings k) (entry_at others k)) where
+  module _ (readings others : List (Option R)) (e : length readings ≡ length others) (same : (k : ℕ) → SameEntry means (entry_at readings k) (entry_at others k)) where
     below_same : (j k : ℕ) → below leq readings j k ≡ below leq others j k
     below_same j k = entry_same (entry_at readings j) (entry_at readings k) (entry_at others j) (entry_at others k) (same j) (same k)
 

@@ -1,22 +1,20 @@
 -- The rules: the lowest candidate, and the mid-value.
-use Rattle.std.specs.Prelude.{ℕ, ◌+◌, ◌*◌, ◌/◌, ◌<◌, ◌≤◌, Bool, false, not, ◌&&◌, T, List, length, ◌==◌, nat_le}
+use Rattle.std.specs.Prelude.{ℕ, ◌+◌, ◌*◌, ◌/◌, ◌<◌, ◌≤◌, Bool, false, not, ◌&&◌, T, List, length, ◌==◌, nat_le, Option, Some, None}
 use Rattle.quorum.specs.Counting.{count}
 use Rattle.values.specs.Entries.{entry_at}
-use Rattle.values.specs.declared.Entry.{Entry}
-use Rattle.values.specs.declared.Entry.TheVariants.{Present, Missing}
 use Rattle.selections.specs.Choices.{candidate, lowest_sensor}
 
 -- the lowest candidate
-unfoldable pub first : {R : Type 0} → List (Entry R) → ℕ
+unfoldable pub first : {R : Type 0} → List (Option R) → ℕ
 first readings = lowest_sensor (length readings) (candidate readings)
 
 -- both are present, and the one's reading is at most the other's
-abbrev pub at_most : {R : Type 0} → (R → R → Bool) → Entry R → Entry R → Bool
-at_most leq Missing d = false
-at_most leq (Present x) Missing = false
-at_most leq (Present x) (Present y) = leq x y
+abbrev pub at_most : {R : Type 0} → (R → R → Bool) → Option R → Option R → Bool
+at_most leq None d = false
+at_most leq (Some x) None = false
+at_most leq (Some x) (Some y) = leq x y
 
-module _ {R : Type 0} (leq : R → R → Bool) (readings : List (Entry R)) where
+module _ {R : Type 0} (leq : R → R → Bool) (readings : List (Option R)) where
   -- the reading of sensor j is at most that of sensor k
   abbrev pub below : ℕ → ℕ → Bool
   below j k = at_most leq (entry_at readings j) (entry_at readings k)

@@ -14,11 +14,9 @@ impl<R: Value> Selection<R> for First {
     ghost chooses = { λ s. first_chooses R.Value.means };
 
     fn choose(&self, readings: &[Entry<R>]) -> u8 {
-        for k in 0..readings.len() {
-            if readings[k].is_present() {
-                return k as u8;
-            }
+        match readings.iter().position(|e| e.is_some()) {
+            Some(k) => k as u8,
+            None => NO_SENSOR,
         }
-        NO_SENSOR
     }
 }

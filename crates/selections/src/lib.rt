@@ -1,8 +1,7 @@
 // Selections: which candidate's reading a cycle goes on with.
 #![tactic(auto)]
 
-ghost use Rattle.std.specs.Prelude.{◌≡◌, ℕ, ◌<◌, List, length};
-ghost use Rattle.values.specs.declared.Entry.{Entry};
+ghost use Rattle.std.specs.Prelude.{◌≡◌, ℕ, ◌<◌, List, length, Option};
 ghost use Rattle.selections.specs.Choices.{Chooses, no_sensor};
 
 pub mod first;
@@ -15,7 +14,7 @@ pub const NO_SENSOR: u8 = 255;
 
 // Chooses one of the candidates, which are the sensors whose entries are present.
 pub trait Selection<R: Value> {
-    ghost choice: { Self → List (Entry R) → ℕ };
+    ghost choice: { Self → List (Option R) → ℕ };
 
     fn choose(&self, readings: &[Entry<R>]) -> u8
         requires { length readings.now < no_sensor }

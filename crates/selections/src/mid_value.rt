@@ -16,66 +16,68 @@ pub struct MidValue;
 fn at_most<R: Ordered>(e: &Entry<R>, d: &Entry<R>) -> bool
     ensures { result ≡ at_most R.Ordered.leq e.now d.now }
 {
-    match e {
-        Entry::Missing => false,
-        Entry::Present(x) => match d {
-            Entry::Missing => false,
-            Entry::Present(y) => x.at_most(y),
-        },
+    match (e, d) {
+        (Some(x), Some(y)) => x.at_most(y),
+        _ => false,
     }
 }
 
-// How many readings do not exceed that of sensor k.
-fn rank<R: Ordered>(readings: &[Entry<R>], k: usize) -> usize
-    requires { k < length readings.now }
-    ensures { result ≡ rank_of R.Ordered.leq readings.now k }
-{
-    let mut count = 0;
-    for j in 0..readings.len() {
-        if at_most(&readings[j], &readings[k]) {
-            count += 1;
+// The sensors' entries, and half of the candidates, rounded up.
+#[derive(Drop)]
+struct Ranking<'a, R: Ordered> {
+    readings: &'a [Entry<R>],
+    half: usize,
+    ghost halved: { half ≡ half_of R.Ordered.leq readings.now },
+}
+
+impl<'a, R: Ordered> Ranking<'a, R> {
+    // How many readings do not exceed that of sensor k.
+    fn rank(&self, k: usize) -> usize
+        requires { k < length self.now.readings.now }
+        ensures { result ≡ rank_of R.Ordered.leq self.now.readings.now k }
+    {
+        let reading = self.readings[k];
+        self.readings
+            .iter()
+            .filter(|e| at_most(e, &reading))
+            .count()
+    }
+
+    // Whether sensor k is a candidate whose reading at least half of the candidates do not exceed.
+    fn is_reached(&self, k: usize) -> bool
+        requires { k < length self.now.readings.now }
+        ensures { result ≡ reached R.Ordered.leq self.now.readings.now k }
+    {
+        self.readings[k].is_some() && self.half <= self.rank(k)
+    }
+
+    // Whether sensor k takes over from the pick among the sensors below it: only with a smaller reading, so the lowest of equals stays.
+    fn takes_over(&self, pick: Option<usize>, k: usize) -> bool
+        requires within { k < length self.now.readings.now }
+        requires picked { (p : ℕ) → pick ≡ Some p → p < length self.now.readings.now }
+        ensures { Decides result (T (reached R.Ordered.leq self.now.readings.now k) × ((p : ℕ) → pick ≡ Some p → T (below R.Ordered.leq self.now.readings.now p k) → ⊥)) }
+    {
+        if !self.is_reached(k) {
+            return false;
+        }
+        match pick {
+            None => true,
+            Some(p) => !at_most(&self.readings[p], &self.readings[k]),
         }
     }
-    count
-}
 
-// Whether sensor k is a candidate whose reading at least `half` of the candidates do not exceed.
-fn is_reached<R: Ordered>(readings: &[Entry<R>], half: usize, k: usize) -> bool
-    requires half { half ≡ half_of R.Ordered.leq readings.now }
-    requires within { k < length readings.now }
-    ensures { result ≡ reached R.Ordered.leq readings.now k }
-{
-    readings[k].is_present() && half <= rank(readings, k)
-}
-
-// Whether sensor k takes over from the pick among the sensors below it: only with a smaller reading, so the lowest of equals stays.
-fn takes_over<R: Ordered>(readings: &[Entry<R>], half: usize, pick: Option<usize>, k: usize) -> bool
-    requires half { half ≡ half_of R.Ordered.leq readings.now }
-    requires within { k < length readings.now }
-    requires picked { (p : ℕ) → pick ≡ Some p → p < length readings.now }
-    ensures { Decides result (T (reached R.Ordered.leq readings.now k) × ((p : ℕ) → pick ≡ Some p → T (below R.Ordered.leq readings.now p k) → ⊥)) }
-{
-    if !is_reached(readings, half, k) {
-        return false;
-    }
-    match pick {
-        None => true,
-        Some(p) => !at_most(&readings[p], &readings[k]),
-    }
-}
-
-// The pick among all sensors.
-fn pick<R: Ordered>(readings: &[Entry<R>], half: usize) -> Option<usize>
-    requires { half ≡ half_of R.Ordered.leq readings.now }
-    ensures { Picked R.Ordered.leq readings.now (length readings.now) result }
-{
-    let mut pick = None;
-    for k in 0..readings.len() {
-        if takes_over(readings, half, pick, k) {
-            pick = Some(k);
+    // The pick among all sensors.
+    fn pick(&self) -> Option<usize>
+        ensures { Picked R.Ordered.leq self.now.readings.now (length self.now.readings.now) result }
+    {
+        let mut pick = None;
+        for k in 0..self.readings.len() {
+            if self.takes_over(pick, k) {
+                pick = Some(k);
+            }
         }
+        pick
     }
-    pick
 }
 
 // Among m candidates the smallest reading that at least half of m, rounded up, do not exceed; of equal readings the lowest sensor.
@@ -90,8 +92,11 @@ impl<R: Ordered> Selection<R> for MidValue {
         ensures rule { (k : ℕ) → T (candidate readings.now k) → MidValued R.Ordered.leq readings.now result }
         ensures bracketed { (k : ℕ) → T (candidate readings.now k) → Bracketed R.Ordered.leq readings.now result }
     {
-        let half = (presence(&readings) + 1) / 2;
-        match pick(readings, half) {
+        let ranking = Ranking {
+            readings,
+            half: (presence(&readings) + 1) / 2,
+        };
+        match ranking.pick() {
             Some(k) => k as u8,
             None => NO_SENSOR,
         }

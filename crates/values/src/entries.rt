@@ -1,6 +1,5 @@
 // Entries read by position, wherever they lie, and their majority: written once, for readings, states and commands alike.
-ghost use Rattle.std.specs.Prelude.{◌≡◌, ℕ, ◌+◌, ◌^◌, ◌<◌, false, length};
-ghost use Rattle.values.specs.declared.Entry.{Entry};
+ghost use Rattle.std.specs.Prelude.{◌≡◌, ℕ, ◌+◌, ◌^◌, ◌<◌, false, length, Option};
 ghost use Rattle.values.specs.Entries.{SameEntry, entry_at, carries as carried, presence as present_in, matches as matches_in};
 ghost use Rattle.values.specs.Majority.{Voted};
 ghost use Rattle.values.specs.Lead.{Weighed, Leads};
@@ -13,7 +12,7 @@ pub trait Entries {
 
     ghost size: { Self → ℕ };
 
-    ghost entry: { Self → ℕ → Entry Self.Item };
+    ghost entry: { Self → ℕ → Option Self.Item };
 
     fn len(&self) -> usize
         ensures { result ≡ size self.now };
@@ -45,13 +44,9 @@ impl<'a, V: Value> Entries for &'a [Entry<V>] {
 pub fn presence<E: Entries>(entries: &E) -> usize
     ensures { result ≡ present_in (E.Entries.size entries.now) (E.Entries.entry entries.now) }
 {
-    let mut count = 0;
-    for i in 0..entries.len() {
-        if entries.at(i).is_present() {
-            count += 1;
-        }
-    }
-    count
+    (0..entries.len())
+        .filter(|i| entries.at(*i).is_some())
+        .count()
 }
 
 // Whether an entry carries the value x.
@@ -59,8 +54,8 @@ pub fn carries<V: Value>(e: &Entry<V>, x: &V) -> bool
     ensures { result ≡ carried V.Value.alike x.now e.now }
 {
     match e {
-        Entry::Present(y) => x.same(y),
-        Entry::Missing => false,
+        Some(y) => x.same(y),
+        None => false,
     }
 }
 
@@ -68,13 +63,9 @@ pub fn carries<V: Value>(e: &Entry<V>, x: &V) -> bool
 pub fn matches<E: Entries>(entries: &E, x: &E::Item) -> usize
     ensures { result ≡ matches_in E.Item.Value.alike x.now (E.Entries.size entries.now) (E.Entries.entry entries.now) }
 {
-    let mut count = 0;
-    for i in 0..entries.len() {
-        if carries(&entries.at(i), x) {
-            count += 1;
-        }
-    }
-    count
+    (0..entries.len())
+        .filter(|i| carries(&entries.at(*i), x))
+        .count()
 }
 
 // The only value that can still have more than half of the entries weighed so far, and what it is ahead by.
@@ -91,16 +82,16 @@ fn weigh<V: Value>(lead: Lead<V>, e: Entry<V>) -> Lead<V>
 {
     let Lead { holder, margin } = lead;
     match e {
-        Entry::Missing => Lead { holder, margin },
-        Entry::Present(_) if margin == 0 => Lead {
+        None => Lead { holder, margin },
+        Some(_) if margin == 0 => Lead {
             holder: e,
             margin: 1,
         },
-        Entry::Present(x) if carries(&holder, &x) => Lead {
+        Some(x) if carries(&holder, &x) => Lead {
             holder,
             margin: margin + 1,
         },
-        Entry::Present(_) => Lead {
+        Some(_) => Lead {
             holder,
             margin: margin - 1,
         },
@@ -112,7 +103,7 @@ fn leader<E: Entries>(entries: &E) -> Lead<E::Item>
     ensures { Leads E.Item.Value.alike (E.Entries.size entries.now) (E.Entries.entry entries.now) result.holder result.margin }
 {
     let mut lead = Lead {
-        holder: Entry::Missing,
+        holder: None,
         margin: 0,
     };
     for i in 0..entries.len() {
@@ -126,12 +117,12 @@ pub fn majority<E: Entries>(entries: &E) -> Entry<E::Item>
     ensures { Voted E.Item.Value.means E.Item.Value.alike (E.Entries.size entries.now) (E.Entries.entry entries.now) result }
 {
     let lead = leader(entries);
-    if let Entry::Present(x) = lead.holder {
+    if let Some(x) = lead.holder {
         let all = presence(entries);
         let carried = matches(entries, &x);
         if carried > all / 2 {
-            return Entry::Present(x);
+            return Some(x);
         }
     }
-    Entry::Missing
+    None
 }

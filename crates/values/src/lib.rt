@@ -2,7 +2,6 @@
 #![tactic(auto)]
 
 ghost use Rattle.std.specs.Prelude.{◌≡◌, Bool, ◌||◌, T, Decides};
-ghost use Rattle.values.specs.Entries.{present};
 ghost use Rattle.values.specs.Order.{BothWays};
 
 pub mod entries;
@@ -59,20 +58,5 @@ pub trait Application {
     ghost commanding: { (a : Self) (s t : Self.State) → Self.State.Value.means s ≡ Self.State.Value.means t → Self.Command.Value.means (commanded a s) ≡ Self.Command.Value.means (commanded a t) };
 }
 
-// One value of its kind, or none.
-#[derive(Clone, Copy)]
-pub enum Entry<T> {
-    Missing,
-    Present(T),
-}
-
-impl<T> Entry<T> {
-    pub fn is_present(&self) -> bool
-        ensures { result ≡ present self.now }
-    {
-        match self {
-            Entry::Present(_) => true,
-            Entry::Missing => false,
-        }
-    }
-}
+// One value of its kind, or none where it is missing.
+pub type Entry<T> = Option<T>;

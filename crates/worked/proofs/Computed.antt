@@ -1,4 +1,5 @@
 -- The examples, computed.
+use Rattle.std.specs.Prelude.{Some, None}
 use mathlib.Core.Path.{◌≡◌, refl, sym}
 use mathlib.Core.Bool.{true, false}
 use Prim.Native.Nat.{ℕ, zero, suc, ◌<◌}
@@ -8,7 +9,6 @@ use lib.ListN.{replicate}
 use Rattle.quorum.specs.Counting.{bit, count, lowest}
 use Rattle.layers.specs.King.{king}
 use Rattle.values.specs.Majority.{majority}
-use Rattle.values.specs.declared.Entry.TheVariants.{Present, Missing}
 use Rattle.selections.specs.Rules.{mid_value}
 use Rattle.applications.specs.Wheel.{equalℤ}
 use Rattle.applications.specs.declared.wheel.Count.{Count}
@@ -23,11 +23,11 @@ module _ (a b : Count) (differ : a ≡ b → ⊥) where
   ba : equalℤ b.value a.value ≡ false
   ba = unequal b.value a.value (λ e. differ (sym (count_equal b a e)))
 
-  pub two_to_one : majority_of (Present a ∷ (Present a ∷ (Present b ∷ []))) ≡ Present a
+  pub two_to_one : majority_of (Some a ∷ (Some a ∷ (Some b ∷ []))) ≡ Some a
   unfolding majority count lowest
   two_to_one = simp (equal_refl a.value, equal_refl b.value, ab, ba)
 
-  pub one_to_one : majority_of (Present a ∷ (Present b ∷ [])) ≡ Missing
+  pub one_to_one : majority_of (Some a ∷ (Some b ∷ [])) ≡ None
   unfolding majority count lowest
   one_to_one = simp (equal_refl a.value, equal_refl b.value, ab, ba)
 

@@ -1,9 +1,8 @@
 // The examples worked out by hand: theorems about the definitions, and the code's own answers.
 #![tactic(auto)]
 
-ghost use Rattle.std.specs.Prelude.{◌≡◌, true, false, ℕ, ◌<◌, pos};
+ghost use Rattle.std.specs.Prelude.{◌≡◌, true, false, ℕ, ◌<◌, pos, Some, None};
 ghost use Rattle.quorum.specs.Counting.{bit};
-ghost use Rattle.values.specs.declared.Entry.TheVariants.{Present, Missing};
 ghost use Rattle.applications.specs.Wheel.{torque_of};
 ghost use Rattle.worked.specs.Examples.{Worked};
 
@@ -32,8 +31,8 @@ pub struct Answers {
 // Runs the examples, with a and b any two counts.
 pub fn examples(a: Count, b: Count) -> Answers
     ensures worked { Worked a b }
-    ensures two { (a ≡ b → ⊥) → result.two_to_one ≡ Present a }
-    ensures one { (a ≡ b → ⊥) → result.one_to_one ≡ Missing }
+    ensures two { (a ≡ b → ⊥) → result.two_to_one ≡ Some a }
+    ensures one { (a ≡ b → ⊥) → result.one_to_one ≡ None }
     ensures middle { result.middle ≡ 1 }
     ensures lowest { result.torque_lowest ≡ pos 32767 }
     ensures minus_one { result.torque_minus_one ≡ pos 0 }
@@ -42,11 +41,11 @@ pub fn examples(a: Count, b: Count) -> Answers
     ensures two_faced { (i : ℕ) → i < 3 → bit result.king_two_faced i ≡ true }
     ensures contradicted { (i : ℕ) → i < 3 → bit result.king_contradicted i ≡ false }
 {
-    let three = [Entry::Present(a), Entry::Present(a), Entry::Present(b)];
-    let two = [Entry::Present(a), Entry::Present(b)];
+    let three = [Some(a), Some(a), Some(b)];
+    let two = [Some(a), Some(b)];
     let readings = [
-        Entry::Present(Count { value: 7 }),
-        Entry::Present(Count { value: -3 }),
+        Some(Count { value: 7 }),
+        Some(Count { value: -3 }),
     ];
     Answers {
         two_to_one: majority(&&three[..]),

@@ -1,20 +1,14 @@
-use Rattle.std.proofs.Common.{T, sym, subst, arith, below_more}
+use Rattle.std.proofs.Common.{◌≡◌, true, false, rules}
+use Rattle.std.proofs.lemmas.Iterator.{first_from_Range}
 use Rattle.quorum.specs.Counting.{bit}
-use Rattle.quorum.specs.Laws.{Lowest}
-use Rattle.quorum.proofs.Counts.{lowest_unique}
+use Rattle.quorum.proofs.Counts.{lowest_found, lowest_unique}
 use Rattle.quorum.proofs.lowest_set.Goals as goal
 
-pub returns-then-is_set : goal.returns-then-is_set
-returns-then-is_set c =
-    let low : Lowest c.args.n (bit c.args.mask) c.loop-i.i =
-    record { within = omega arith; passes = λ l. subst T c.if-is_set.ensures tt; before = c.loop-i.invariant } in
-    record { value = lowest_unique c.args.n (bit c.args.mask) c.loop-i.i low; is = low }
+pub returns-clause-is : goal.returns-clause-is
+returns-clause-is c =
+    let test = bit c.args.mask in
+    let found = first_from_Range _ _ _ c.find.result (λ i. test i ≡ true) (λ i. test i ≡ false) c.find.ensures.ran (λ x q k. search rules) (λ x q k. search rules) in
+    rw c.unwrap_or.ensures (lowest_found c.args.n test c.find.result found)
 
-pub loop-i-preserved : goal.loop-i-preserved
-loop-i-preserved c = below_more _ _ c.loop-i.invariant (λ t. subst T (sym c.if-is_set.ensures) t)
-
-pub returns : goal.returns
-returns c =
-    let low : Lowest c.args.n (bit c.args.mask) c.args.n =
-    record { within = omega arith; passes = λ l. absurd (omega arith); before = λ j l t. c.loop-i.invariant j (omega arith) t } in
-    record { value = lowest_unique c.args.n (bit c.args.mask) c.args.n low; is = low }
+pub returns-clause-value : goal.returns-clause-value
+returns-clause-value c = lowest_unique c.args.n (bit c.args.mask) c.unwrap_or.result (returns-clause-is c)

@@ -1,10 +1,9 @@
-use Rattle.std.proofs.Common.{◌≡◌, ℕ, ◌+◌, ◌*◌, ◌^◌, ◌≤◌, Bool, sym, ap, ◌∙◌, subst, arith, pow_mono}
+use Rattle.std.proofs.Common.{◌≡◌, ℕ, ◌+◌, ◌*◌, ◌^◌, ◌≤◌, Bool, sym, ap, ◌∙◌, subst, arith, pow_mono, Option}
 use Rattle.values.specs.Entries.{present, entry_at}
-use Rattle.values.specs.declared.Entry.{Entry}
 use Rattle.protocol.specs.Tables.{MaskOf}
 use Rattle.cluster.proofs.Masks.{mask_yes, mask_no}
 use Rattle.cluster.proofs.agree.mask_of.Goals as goal
-use Rattle.cluster.proofs.agree.mask_of.Goals.{then-is_present, else-is_present}
+use Rattle.cluster.proofs.agree.mask_of.Goals.{then-is_some, else-is_some}
 
 pub overflow_cast-result : goal.overflow_cast-result
 overflow_cast-result g c =
@@ -17,10 +16,10 @@ loop-k-preserved g c =
     let agreed = c.args.agreed.now in
     let k = c.loop-k.k in
     let test : ℕ → Bool = λ q. present (entry_at agreed (c.args.i * c.args.sensors + q)) in
-    let at : present c.entry_at.result ≡ test k = ap (λ (e : Entry g.row.R.Denot). present e) c.entry_at.ensures ∙ ap (λ (p : ℕ). present (entry_at agreed p)) c.place.ensures.is in
-    elim c.if-is_present.branch [
-      | then-is_present w ↦ mask_yes test c.loop-k.mask k (omega arith) c.loop-k.invariant (sym at ∙ sym w.if-is_present.ensures) c.if-is_present.mask w.mask-is
-      | else-is_present w ↦ mask_no test c.loop-k.mask k (omega arith) c.loop-k.invariant (sym at ∙ sym w.if-is_present.ensures) c.if-is_present.mask w.mask-is
+    let at : present c.entry_at.result ≡ test k = ap (λ (e : Option g.row.R.Denot). present e) c.entry_at.ensures ∙ ap (λ (p : ℕ). present (entry_at agreed p)) c.place.ensures.is in
+    elim c.if-is_some.branch [
+      | then-is_some w ↦ mask_yes test c.loop-k.mask k (omega arith) c.loop-k.invariant (sym at ∙ sym w.if-is_some.ensures) c.if-is_some.mask w.mask-is
+      | else-is_some w ↦ mask_no test c.loop-k.mask k (omega arith) c.loop-k.invariant (sym at ∙ sym w.if-is_some.ensures) c.if-is_some.mask w.mask-is
     ]
 
 pub returns : goal.returns

@@ -1,6 +1,5 @@
-use Rattle.std.proofs.Common.{◌/◌, ◌%◌, sym, ap, ◌∙◌, arith}
+use Rattle.std.proofs.Common.{◌/◌, ◌%◌, sym, ap, ◌∙◌, arith, Option}
 use Rattle.std.proofs.lemmas.Nat.{div_below, mod_below}
-use Rattle.values.specs.declared.Entry.{Entry}
 use Rattle.cluster.specs.Writing.{accepts_own, heard_row}
 use Rattle.protocol.proofs.Sweep.{swept_left, swept_wrote}
 use Rattle.cluster.proofs.filter.write_accept.Goals as goal
@@ -19,6 +18,6 @@ loop-p-preserved g c =
     let p = c.loop-p.p in
     elim c.if-is_sound.branch [
       | then-is_sound w ↦ swept_wrote _ _ c.if-is_sound.accept w.accepts.result w.accept-is (omega arith) (sym w.if-is_sound.ensures)
-          (w.accepts.ensures ∙ ap (λ (e : Entry g.row.R.Denot). accepts_own g.R.Value.alike a.n a.f e (heard_row a.n a.sensors a.heard.now (p / a.sensors) (p % a.sensors))) w.entry_at.ensures) c.loop-p.invariant
+          (w.accepts.ensures ∙ ap (λ (e : Option g.row.R.Denot). accepts_own g.R.Value.alike a.n a.f e (heard_row a.n a.sensors a.heard.now (p / a.sensors) (p % a.sensors))) w.entry_at.ensures) c.loop-p.invariant
       | else-is_sound w ↦ swept_left _ _ c.if-is_sound.accept w.accept-is (sym w.if-is_sound.ensures) c.loop-p.invariant
     ]

@@ -1,6 +1,5 @@
-use Rattle.std.proofs.Common.{◌≡◌, map, ap, ◌∙◌}
+use Rattle.std.proofs.Common.{◌≡◌, map, ap, ◌∙◌, Option}
 use Rattle.values.specs.Entries.{entry_at}
-use Rattle.values.specs.declared.Entry.{Entry}
 use Rattle.applications.specs.declared.wheel.Count.{Count}
 use Rattle.demo.specs.Processors.{taken, reading_of}
 use Rattle.demo.proofs.Sending.{carried_on}
@@ -11,7 +10,7 @@ returns c =
     let ps = c.args.processors.now in
     let readings = c.args.readings.now in
     let reading : c.reading_at.result ≡ reading_of readings = c.reading_at.ensures ∙ ap (entry_at readings) c.choose-chosen.ensures.value in
-    let moved : c.take_all.new.processors ≡ map (taken (reading_of readings)) ps = c.take_all.ensures ∙ ap (λ (e : Entry Count). map (taken e) ps) reading in
+    let moved : c.take_all.new.processors ≡ map (taken (reading_of readings)) ps = c.take_all.ensures ∙ ap (λ (e : Option Count). map (taken e) ps) reading in
     record {
       chosen = c.choose-chosen.ensures.value;
       moved = moved;

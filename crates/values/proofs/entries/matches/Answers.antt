@@ -1,22 +1,17 @@
-use Rattle.std.proofs.Common.{◌≡◌, sym, ◌∙◌, arith}
-use Rattle.quorum.proofs.Counts.{count_zero, count_yes, count_no}
+use Rattle.std.proofs.Common.{◌∙◌, ℕ, sym, rules, arith}
+use Rattle.std.proofs.lemmas.Iterator.{YieldsList-from_range}
+use Rattle.std.proofs.lemmas.Iterator.Consumers.{YieldsList-from_filter, count_from_yields_List}
+use Rattle.quorum.proofs.Counts.{count_kept}
 use Rattle.values.specs.Entries.{carries}
 use Rattle.values.proofs.Meanings.{carries_at}
 use Rattle.values.proofs.entries.matches.Goals as goal
-use Rattle.values.proofs.entries.matches.Goals.{then-carries, else-carries}
 
-pub loop-i-init : goal.loop-i-init
-loop-i-init g c = (sym (count_zero _), omega arith)
-
-pub loop-i-preserved : goal.loop-i-preserved
-loop-i-preserved g c =
-    let alike = g.E.Item.Value.alike in
-    let entry = g.E.Entries.entry c.args.entries.now in
-    let x = c.args.x.now in
-    let i = c.loop-i.i in
-    let at : carries alike x (entry i) ≡ c.carries.result =
-    carries_at g.E.Item.Value.means alike g.met.E.Item.Value.sameness x (entry i) c.at.result c.at.ensures ∙ sym c.carries.ensures in
-    elim c.if-carries.branch [
-      | then-carries w ↦ (omega (arith, w.count-is, count_yes i (λ j. carries alike x (entry j)) (at ∙ w.if-carries.true)), omega arith)
-      | else-carries w ↦ (omega (arith, w.count-is, count_no i (λ j. carries alike x (entry j)) (at ∙ w.if-carries.false)), omega arith)
-    ]
+pub returns : goal.returns
+returns g c =
+    let value = g.E.Item.Value in
+    let n = g.E.Entries.size c.args.entries.now in
+    let test = λ (i : ℕ). carries value.alike c.args.x.now (g.E.Entries.entry c.args.entries.now i) in
+    count_from_yields_List c.filter.result c.count.result c.count.ensures.ran
+    (YieldsList-from_filter _ test (YieldsList-from_range 0 n n (cc) (omega arith)) c.filter.ensures.closure
+    (λ x b q k. search (rules, sym, carries_at value.means value.alike g.met.E.Item.Value.sameness c.args.x.now)))
+    ∙ count_kept n test

@@ -1,20 +1,15 @@
-use Rattle.std.proofs.Common.{◌≡◌, sym, ◌∙◌, arith}
-use Rattle.quorum.proofs.Counts.{count_zero, count_yes, count_no}
+use Rattle.std.proofs.Common.{◌∙◌, ℕ, rules, arith}
+use Rattle.std.proofs.lemmas.Iterator.{YieldsList-from_range}
+use Rattle.std.proofs.lemmas.Iterator.Consumers.{YieldsList-from_filter, count_from_yields_List}
+use Rattle.quorum.proofs.Counts.{count_kept}
 use Rattle.values.specs.Entries.{present}
 use Rattle.values.proofs.Meanings.{same_present}
 use Rattle.values.proofs.entries.presence.Goals as goal
-use Rattle.values.proofs.entries.presence.Goals.{then-is_present, else-is_present}
 
-pub loop-i-init : goal.loop-i-init
-loop-i-init g c = (sym (count_zero _), omega arith)
-
-pub loop-i-preserved : goal.loop-i-preserved
-loop-i-preserved g c =
-    let entry = g.E.Entries.entry c.args.entries.now in
-    let i = c.loop-i.i in
-    let at : present (entry i) ≡ c.is_present.result =
-    sym (same_present g.E.Item.Value.means c.at.result (entry i) c.at.ensures) ∙ sym c.is_present.ensures in
-    elim c.if-is_present.branch [
-      | then-is_present w ↦ (omega (arith, w.count-is, count_yes i (λ j. present (entry j)) (at ∙ w.if-is_present.true)), omega arith)
-      | else-is_present w ↦ (omega (arith, w.count-is, count_no i (λ j. present (entry j)) (at ∙ w.if-is_present.false)), omega arith)
-    ]
+pub returns : goal.returns
+returns g c =
+    let n = g.E.Entries.size c.args.entries.now in
+    let test = λ (i : ℕ). present (g.E.Entries.entry c.args.entries.now i) in
+    count_from_yields_List c.filter.result c.count.result c.count.ensures.ran
+    (YieldsList-from_filter _ test (YieldsList-from_range 0 n n (cc) (omega arith)) c.filter.ensures.closure (λ x b q k. search (rules, same_present g.E.Item.Value.means)))
+    ∙ count_kept n test

@@ -1,24 +1,17 @@
-use Rattle.std.proofs.Common.{T, length, sym, ◌∙◌, subst, arith, below_more}
-use Rattle.selections.specs.Choices.{candidate}
-use Rattle.selections.specs.Rules.{first}
-use Rattle.selections.specs.Sensors.{sensor_found, sensor_none, candidate_read}
+use Rattle.std.proofs.Common.{◌≡◌, true, false, rules, tests}
+use Rattle.std.proofs.lemmas.Iterator.{YieldsList-from_slice, IsFirst-from_position}
+use Rattle.values.specs.Entries.{present}
+use Rattle.selections.specs.Sensors.{first_some, first_none}
 use Rattle.selections.proofs.first.FirstSelection.choose.Goals as goal
 
-pub returns-then-is_present : goal.returns-then-is_present
-unfolding first
-returns-then-is_present g c =
-    let readings = c.args.readings.now in
-    sensor_found (length readings) (candidate readings) c.loop-k.k c.loop-k-test.true
-    (subst T (c.if-is_present.ensures ∙ candidate_read readings c.loop-k.k c.index-readings-k.result c.loop-k-test.true c.index-readings-k.is) tt)
-    c.loop-k.invariant
+pub returns-in-Some : goal.returns-in-Some
+returns-in-Some g c =
+    let is = IsFirst-from_position _ _ c.position.result (λ e. present e ≡ true) (λ e. present e ≡ false) c.position.ensures.ran
+    (YieldsList-from_slice c.args.readings.now (cc)) (λ x q k. search (rules, tests)) (λ x q k. search (rules, tests)) in
+    first_some c.args.readings.now c.position.result c.in-Some.k is c.in-Some.is
 
-pub loop-k-preserved : goal.loop-k-preserved
-loop-k-preserved g c =
-    below_more _ _ c.loop-k.invariant
-    (λ t. subst T (sym (c.if-is_present.ensures ∙ candidate_read c.args.readings.now c.loop-k.k c.index-readings-k.result c.loop-k-test.true c.index-readings-k.is)) t)
-
-pub returns : goal.returns
-unfolding first
-returns g c =
-    let readings = c.args.readings.now in
-    sym (sensor_none (length readings) (candidate readings) (λ j l t. c.loop-k.invariant j (omega arith) t))
+pub returns-in-None : goal.returns-in-None
+returns-in-None g c =
+    let is = IsFirst-from_position _ _ c.position.result (λ e. present e ≡ true) (λ e. present e ≡ false) c.position.ensures.ran
+    (YieldsList-from_slice c.args.readings.now (cc)) (λ x q k. search (rules, tests)) (λ x q k. search (rules, tests)) in
+    first_none c.args.readings.now c.position.result is c.in-None.is

@@ -6,8 +6,8 @@ use Rattle.selections.specs.Middle.{mid_rule, mid_bracketed}
 use Rattle.selections.proofs.Picking.{picked_some, picked_none}
 use Rattle.selections.proofs.mid_value.MidValueSelection.choose.Goals as goal
 
-pub overflow_add-half : goal.overflow_add-half
-overflow_add-half g c = omega (arith, count_le (length c.args.readings.now) (candidate c.args.readings.now))
+pub overflow_add-ranking : goal.overflow_add-ranking
+overflow_add-ranking g c = omega (arith, count_le (length c.args.readings.now) (candidate c.args.readings.now))
 
 pub overflow_cast-result : goal.overflow_cast-result
 overflow_cast-result g c = omega (arith, c.in-Some.ensures.within)

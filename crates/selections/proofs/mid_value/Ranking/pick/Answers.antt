@@ -2,20 +2,20 @@ use Rattle.std.proofs.Common.{◌≡◌, ℕ, ◌+◌, length, Option, sym, subs
 use Rattle.std.proofs.lemmas.Bool.Decides.{not_from_Decides}
 use Rattle.selections.specs.Picks.{Picked}
 use Rattle.selections.proofs.Picking.{pick_takes, pick_stays, picked_within}
-use Rattle.selections.proofs.mid_value.pick.Goals as goal
-use Rattle.selections.proofs.mid_value.pick.Goals.{then-takes_over, else-takes_over}
+use Rattle.selections.proofs.mid_value.Ranking.pick.Goals as goal
+use Rattle.selections.proofs.mid_value.Ranking.pick.Goals.{then-takes_over, else-takes_over}
 
 pub takes_over-requires : goal.takes_over-requires
 takes_over-requires g c =
     let o = g.met.R.Ordered in
-    let inside = picked_within g.R.Value.means g.R.Ordered.leq o.total o.transitive o.congruent c.args.readings.now c.loop-k.k c.loop-k.pick in
-    record { half = c.requires; within = c.loop-k-test.true; picked = λ p e. omega (arith, inside p c.loop-k.invariant e) }
+    let inside = picked_within g.R.Value.means g.R.Ordered.leq o.total o.transitive o.congruent c.args.self.now.readings.now c.loop-k.k c.loop-k.pick in
+    record { within = c.loop-k-test.true; picked = λ p e. omega (arith, inside p c.loop-k.invariant e) }
 
 pub loop-k-preserved : goal.loop-k-preserved
 loop-k-preserved g c =
     let o = g.met.R.Ordered in
     let leq = g.R.Ordered.leq in
-    let readings = c.args.readings.now in
+    let readings = c.args.self.now.readings.now in
     let k = c.loop-k.k in
     let P : Option ℕ → Type 0 = Picked leq readings (k + 1) in
     elim c.if-takes_over.branch [
@@ -28,5 +28,5 @@ loop-k-preserved g c =
 
 pub returns : goal.returns
 returns g c =
-    let same : c.loop-k.k ≡ length c.args.readings.now = omega arith in
-    subst (λ (i : ℕ). Picked g.R.Ordered.leq c.args.readings.now i c.loop-k.pick) same c.loop-k.invariant
+    let same : c.loop-k.k ≡ length c.args.self.now.readings.now = omega arith in
+    subst (λ (i : ℕ). Picked g.R.Ordered.leq c.args.self.now.readings.now i c.loop-k.pick) same c.loop-k.invariant

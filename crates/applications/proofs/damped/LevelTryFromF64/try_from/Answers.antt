@@ -2,7 +2,7 @@ use Rattle.std.proofs.Common.{rules}
 use lib.Ieee.Fits.{and_i}
 use Rattle.applications.specs.FloatOrder.{lt_le}
 use Rattle.applications.specs.LevelLaws.{holds, literals, from_level}
-use Rattle.applications.proofs.level.Level.from_f64.Goals as goal
+use Rattle.applications.proofs.damped.LevelTryFromF64.try_from.Goals as goal
 
 -- `lt_le` lets a test at an open end pass here, so that only the refusal of that end is wrong
 pub invariant_of-result : goal.invariant_of-result

@@ -1,5 +1,0 @@
-use Rattle.selections.specs.Picks.{Picked}
-use Rattle.selections.proofs.mid_value.pick.Given as goal
-
-abbrev pub invariant-loop-k : goal.invariant-loop-k
-invariant-loop-k g l = Picked g.R.Ordered.leq l.readings l.k l.pick

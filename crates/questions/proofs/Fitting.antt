@@ -1,5 +1,5 @@
 -- From the test on the sizes of tables to each size, and to the verdicts.
-use Rattle.std.proofs.Common.{◌≡◌, ℕ, ◌*◌, ◌<◌, Bool, true, false, not, ◌&&◌, eqb, ltb, List, length, sym, refl, ap, ◌∙◌, ap₂, ltb-true, Option}
+use Rattle.std.proofs.Common.{◌≡◌, ℕ, ◌*◌, ◌<◌, Bool, true, false, not, ◌&&◌, eqb, ltb, List, length, sym, refl, ◌∙◌, ap₂, ltb-true, Option}
 use Rattle.quorum.specs.Counting.{bit}
 use Rattle.std.proofs.lemmas.Bool.{and_parts, eqb-true}
 use Rattle.protocol.specs.Setup.{Config, Tables, Sizes, sizes, intake, filter, agree, select, commit, look, Rule}
@@ -60,14 +60,6 @@ module _ {R S C : Type 0} (g : Config R S C) (z : Sizes) where
   unfolding verdict tables_fit
   verdict-look i = refl
 
--- what the questions answered is the verdict
-pub stage_told : (v : Verdict) (fit fit' input : Bool) → fit ≡ fit' → v ≡ stage_verdict fit input → stage_verdict fit' input ≡ v
-stage_told v fit fit' input e h = ap (λ (b : Bool). stage_verdict b input) (sym e) ∙ sym h
-
--- what a look's questions answered is the verdict
-pub look_told : (v : Verdict) (fit fit' : Bool) (n marks i : ℕ) → fit ≡ fit' → v ≡ look_verdict fit n marks i → look_verdict fit' n marks i ≡ v
-look_told v fit fit' n marks i e h = ap (λ (b : Bool). look_verdict b n marks i) (sym e) ∙ sym h
-
 pub granted≢refused : (k : ℕ) → granted ≡ refused k → ⊥
 granted≢refused k h = cc
 
@@ -81,8 +73,8 @@ granted_input true false h = absurd (granted≢refused 8 h)
 granted_input false input h = absurd (granted≢refused 7 h)
 
 -- where a stage is granted, its tables fit
-pub granted_fits : (n sensors : ℕ) (z : Sizes) (fit input : Bool) → fit ≡ fits n sensors z → granted ≡ stage_verdict fit input → Fits n sensors z
-granted_fits n sensors z fit input e h = fits_each n sensors z (sym e ∙ granted_fit fit input h)
+pub granted_fits : (n sensors : ℕ) (z : Sizes) (input : Bool) → granted ≡ stage_verdict (fits n sensors z) input → Fits n sensors z
+granted_fits n sensors z input h = fits_each n sensors z (granted_fit (fits n sensors z) input h)
 
 -- and what comes in is as long as asked
 pub granted_long : (fit input : Bool) (a b a' b' : ℕ) → input ≡ eqb a a' && eqb b b' → granted ≡ stage_verdict fit input → (a ≡ a') × (b ≡ b')
@@ -90,12 +82,13 @@ granted_long fit input a b a' b' e h =
     let both = and_parts _ _ (sym e ∙ granted_input fit input h) in
     (eqb-true _ _ both.0, eqb-true _ _ both.1)
 
-pub granted_look : (fit fit' : Bool) (n marks i : ℕ) → fit ≡ fit' → granted ≡ look_verdict fit n marks i → (fit' ≡ true) × (i < n)
-granted_look fit fit' n marks i e h = by fit (ltb i n) refl e h where
-  by : (fit low : Bool) → ltb i n ≡ low → fit ≡ fit' → granted ≡ ask fit tables_size (ask low replica_number (ask (not (bit marks i)) replica_faulty granted)) → (fit' ≡ true) × (i < n)
-  by true true l e h = (sym e, ltb-true i n l)
-  by true false l e h = absurd (granted≢refused 9 h)
-  by false low l e h = absurd (granted≢refused 7 h)
+-- where a look is granted, its tables fit and there is such a replica
+pub granted_look : (n sensors : ℕ) (z : Sizes) (marks i : ℕ) → granted ≡ look_verdict (fits n sensors z) n marks i → Fits n sensors z × (i < n)
+granted_look n sensors z marks i h = by (fits n sensors z) (ltb i n) refl refl h where
+  by : (fit low : Bool) → fits n sensors z ≡ fit → ltb i n ≡ low → granted ≡ ask fit tables_size (ask low replica_number (ask (not (bit marks i)) replica_faulty granted)) → Fits n sensors z × (i < n)
+  by true true e l h = (fits_each n sensors z e, ltb-true i n l)
+  by true false e l h = absurd (granted≢refused 9 h)
+  by false low e l h = absurd (granted≢refused 7 h)
 
 -- tables of the same lengths
 pub same_sizes : {R S : Type 0} (t t' : Tables R S) → length t'.state ≡ length t.state → length t'.own ≡ length t.own → length t'.agreed ≡ length t.agreed → length t'.run ≡ length t.run

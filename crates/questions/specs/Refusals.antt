@@ -1,5 +1,5 @@
 -- The numbers of refusals.
-use Rattle.std.specs.Prelude.{ℕ, Some, None, Option}
+use Rattle.std.specs.Prelude.{ℕ, Ok, Err, Result}
 use Rattle.protocol.specs.Model.{Verdict, granted, refused, tables_size, input_size, replica_number, replica_faulty}
 use Rattle.questions.specs.declared.Refusal.{Refusal}
 use Rattle.questions.specs.declared.Refusal.TheVariants.{Replicas, Faults, Third, Sensors, MarkedNumber, Marked, TablesSize, InputSize, ReplicaNumber, ReplicaFaulty}
@@ -17,7 +17,7 @@ number_of InputSize = input_size
 number_of ReplicaNumber = replica_number
 number_of ReplicaFaulty = replica_faulty
 
--- the verdict that a refusal, or none, stands for
-abbrev pub verdict_of : Option Refusal → Verdict
-verdict_of None = granted
-verdict_of (Some refusal) = refused (number_of refusal)
+-- the verdict that an answer stands for
+abbrev pub verdict_of : {X : Type 0} → Result X Refusal → Verdict
+verdict_of (Ok _) = granted
+verdict_of (Err refusal) = refused (number_of refusal)

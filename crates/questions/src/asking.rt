@@ -1,9 +1,12 @@
 // The questions in their order.
-ghost use Rattle.std.specs.Prelude.{◌≡◌, ◌*◌, ◌^◌, ◌<◌, ◌≤◌, nat_lt};
+ghost use Rattle.std.specs.Prelude.{◌≡◌, ◌*◌, ◌^◌, ◌<◌, ◌≤◌, not, nat_lt};
+ghost use Rattle.quorum.specs.Counting.{bit};
+ghost use Rattle.protocol.specs.Model.{ask, granted, tables_size};
 ghost use Rattle.questions.specs.Questions.{fits, stage_verdict, look_verdict, NumbersAnswer};
 ghost use Rattle.questions.specs.Refusals.{verdict_of};
+ghost use Rattle.questions.specs.Lengths.{sizes_of};
 
-use crate::{Parameters, Refusal};
+use crate::{Parameters, Refusal, Sizes};
 use quorum::{is_set, set_bits};
 
 // Whether every marked number is below n.
@@ -45,61 +48,65 @@ impl Parameters {
         })
     }
 
+    // Whether replica i is sound.
+    pub fn is_sound(&self, i: usize) -> bool
+        ensures { not result ≡ bit self.now.marks i }
+    {
+        !is_set(self.marks, i)
+    }
+
     // Whether each table has exactly its size.
-    pub fn tables_fit(
-        &self,
-        state: usize,
-        own: usize,
-        agreed: usize,
-        run: usize,
-        accept: usize,
-        yes: usize,
-        heard: usize,
-        candidates: usize,
-        chosen: usize,
-    ) -> bool
-        ensures { result ≡ fits self.now.n self.now.sensors record { state = state; own = own; agreed = agreed; run = run; accept = accept; yes = yes; heard = heard; candidates = candidates; chosen = chosen } }
+    fn fits(&self, sizes: Sizes) -> bool
+        ensures { result ≡ fits self.now.n self.now.sensors (sizes_of sizes) }
     {
         let each = self.n * self.sensors;
-        state == self.n
-            && own == each
-            && agreed == each
-            && run == each
-            && accept == each
-            && yes == each
-            && heard == self.n * each
-            && candidates == self.n
-            && chosen == self.n
+        sizes
+            == Sizes {
+                state: self.n,
+                own: each,
+                agreed: each,
+                run: each,
+                accept: each,
+                yes: each,
+                heard: self.n * each,
+                candidates: self.n,
+                chosen: self.n,
+            }
     }
-}
 
-impl Parameters {
-    // The questions of a look: whether its tables fit, and whether there is such a replica and it is sound.
-    pub fn look_refusal(&self, tables: bool, replica: usize) -> Option<Refusal>
-        ensures { verdict_of result ≡ look_verdict tables self.now.n self.now.marks replica }
+    // The question of every call: the tables.
+    pub fn ask_tables(&self, sizes: Sizes) -> Result<(), Refusal>
+        ensures { verdict_of result ≡ ask (fits self.now.n self.now.sensors (sizes_of sizes)) tables_size granted }
     {
-        if !tables {
-            return Some(Refusal::TablesSize);
+        if self.fits(sizes) {
+            Ok(())
+        } else {
+            Err(Refusal::TablesSize)
         }
-        if replica >= self.n {
-            return Some(Refusal::ReplicaNumber);
-        }
-        if is_set(self.marks, replica) {
-            return Some(Refusal::ReplicaFaulty);
-        }
-        None
     }
-}
 
-// The questions of a stage: whether its tables fit, and whether what comes in does.
-pub fn stage_refusal(fit: bool, input: bool) -> Option<Refusal>
-    ensures { verdict_of result ≡ stage_verdict fit input }
-{
-    if !fit {
-        return Some(Refusal::TablesSize);
+    // The questions of a stage: the tables, and whether what comes in has its size.
+    pub fn ask_stage(&self, sizes: Sizes, input: bool) -> Result<(), Refusal>
+        ensures { verdict_of result ≡ stage_verdict (fits self.now.n self.now.sensors (sizes_of sizes)) input }
+    {
+        self.ask_tables(sizes)?;
+        if !input {
+            return Err(Refusal::InputSize);
+        }
+        Ok(())
     }
-    if !input {
-        return Some(Refusal::InputSize);
+
+    // The questions of a look: the tables, and whether there is such a replica and it is sound.
+    pub fn ask_look(&self, sizes: Sizes, replica: usize) -> Result<(), Refusal>
+        ensures { verdict_of result ≡ look_verdict (fits self.now.n self.now.sensors (sizes_of sizes)) self.now.n self.now.marks replica }
+    {
+        self.ask_tables(sizes)?;
+        if replica >= self.n {
+            return Err(Refusal::ReplicaNumber);
+        }
+        if !self.is_sound(replica) {
+            return Err(Refusal::ReplicaFaulty);
+        }
+        Ok(())
     }
-    None
 }

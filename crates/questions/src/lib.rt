@@ -4,6 +4,10 @@
 ghost use Rattle.std.specs.Prelude.{◌≡◌};
 ghost use Rattle.questions.specs.Numbers.{Sizable, Bearable};
 ghost use Rattle.questions.specs.Refusals.{number_of};
+ghost use Rattle.questions.specs.Lengths.{sizes_of};
+ghost use Rattle.protocol.specs.Setup.{lent, sizes};
+
+use values::Entry;
 
 pub mod asking;
 
@@ -18,19 +22,61 @@ pub struct Parameters {
     ghost bearable: { Bearable n f marks },
 }
 
-// Why a call is refused.
+// How long the lent tables are.
+#[derive(Clone, Copy, PartialEq, Eq, Debug)]
+pub struct Sizes {
+    pub state: usize,
+    pub own: usize,
+    pub agreed: usize,
+    pub run: usize,
+    pub accept: usize,
+    pub yes: usize,
+    pub heard: usize,
+    pub candidates: usize,
+    pub chosen: usize,
+}
+
+impl Sizes {
+    pub fn of<R, S>(
+        state: &[S],
+        own: &[Entry<R>],
+        agreed: &[Entry<R>],
+        run: &[S],
+        accept: &[bool],
+        yes: &[u16],
+        heard: &[Entry<R>],
+        candidates: &[u8],
+        chosen: &[u8],
+    ) -> Sizes
+        ensures { sizes_of result ≡ sizes (lent state.now own.now agreed.now run.now accept.now yes.now heard.now candidates.now chosen.now) }
+    {
+        Sizes {
+            state: state.len(),
+            own: own.len(),
+            agreed: agreed.len(),
+            run: run.len(),
+            accept: accept.len(),
+            yes: yes.len(),
+            heard: heard.len(),
+            candidates: candidates.len(),
+            chosen: chosen.len(),
+        }
+    }
+}
+
+// Why a call is refused: the question that was answered no, by its number.
 #[derive(Clone, Copy, PartialEq, Eq, Debug)]
 pub enum Refusal {
-    Replicas,
-    Faults,
-    Third,
-    Sensors,
-    MarkedNumber,
-    Marked,
-    TablesSize,
-    InputSize,
-    ReplicaNumber,
-    ReplicaFaulty,
+    Replicas = 1,
+    Faults = 2,
+    Third = 3,
+    Sensors = 4,
+    MarkedNumber = 5,
+    Marked = 6,
+    TablesSize = 7,
+    InputSize = 8,
+    ReplicaNumber = 9,
+    ReplicaFaulty = 10,
 }
 
 impl Refusal {
@@ -38,17 +84,6 @@ impl Refusal {
     pub fn number(&self) -> u8
         ensures { result ≡ number_of self.now }
     {
-        match self {
-            Refusal::Replicas => 1,
-            Refusal::Faults => 2,
-            Refusal::Third => 3,
-            Refusal::Sensors => 4,
-            Refusal::MarkedNumber => 5,
-            Refusal::Marked => 6,
-            Refusal::TablesSize => 7,
-            Refusal::InputSize => 8,
-            Refusal::ReplicaNumber => 9,
-            Refusal::ReplicaFaulty => 10,
-        }
+        *self as u8
     }
 }

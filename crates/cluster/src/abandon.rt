@@ -6,7 +6,7 @@ ghost use Rattle.cluster.specs.Answers.{of_rest, of_taken_in, of_filtered, of_ag
 use crate::moves::at_rest;
 use crate::{Agreed, Chosen, Filtered, Rest, TakenIn};
 use layers::layer::Layer;
-use protocol::promise;
+use protocol::never_part;
 use values::{Application, Value};
 
 impl<A: Application, L: Layer> TakenIn<A, L> {
@@ -14,7 +14,7 @@ impl<A: Application, L: Layer> TakenIn<A, L> {
     pub fn abandon(self) -> Rest<A, L>
         ensures { Abandoned (semantics A.Reading.Value A.State.Value A.Command.Value A.Application L.Layer) taken_in (of_taken_in self) (of_rest result) }
     {
-        promise::<A, L>();
+        never_part::<A, L>();
         let TakenIn {
             parameters,
             app,
@@ -29,7 +29,7 @@ impl<A: Application, L: Layer> Filtered<A, L> {
     pub fn abandon(self) -> Rest<A, L>
         ensures { Abandoned (semantics A.Reading.Value A.State.Value A.Command.Value A.Application L.Layer) filtered (of_filtered self) (of_rest result) }
     {
-        promise::<A, L>();
+        never_part::<A, L>();
         let Filtered {
             parameters,
             app,
@@ -44,7 +44,7 @@ impl<A: Application, L: Layer> Agreed<A, L> {
     pub fn abandon(self) -> Rest<A, L>
         ensures { Abandoned (semantics A.Reading.Value A.State.Value A.Command.Value A.Application L.Layer) agreed (of_agreed self) (of_rest result) }
     {
-        promise::<A, L>();
+        never_part::<A, L>();
         let Agreed {
             parameters,
             app,
@@ -59,7 +59,7 @@ impl<A: Application, L: Layer> Chosen<A, L> {
     pub fn abandon(self) -> Rest<A, L>
         ensures { Abandoned (semantics A.Reading.Value A.State.Value A.Command.Value A.Application L.Layer) chosen (of_chosen self) (of_rest result) }
     {
-        promise::<A, L>();
+        never_part::<A, L>();
         let Chosen {
             parameters,
             app,

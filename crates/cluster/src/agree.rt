@@ -14,7 +14,7 @@ use crate::places::{entry_at, is_sound, place};
 use crate::row::heard_majority;
 use crate::{Agreed, Filtered, Refused};
 use layers::layer::Layer;
-use protocol::promise;
+use protocol::never_part;
 use questions::asking::stage_refusal;
 use quorum::set_bits;
 use values::{Application, Entry, Value};
@@ -131,7 +131,7 @@ impl<A: Application, L: Layer> Filtered<A, L> {
             (lent state.now own.now agreed.new run.now accept.now yes.new heard.now candidates.new chosen.now)
             result }
     {
-        promise::<A, L>();
+        never_part::<A, L>();
         let fit = self.parameters.tables_fit(
             state.len(),
             own.len(),

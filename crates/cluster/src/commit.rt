@@ -7,7 +7,7 @@ use crate::moves::at_rest;
 use crate::{Chosen, Committed, Refused};
 use dispersal::close;
 use layers::layer::Layer;
-use protocol::promise;
+use protocol::never_part;
 use values::{Application, Entry, Value};
 
 impl<A: Application, L: Layer> Chosen<A, L> {
@@ -31,7 +31,7 @@ impl<A: Application, L: Layer> Chosen<A, L> {
             (lent state.new own.now agreed.now run.now accept.now yes.now heard.now candidates.now chosen.now)
             result }
     {
-        promise::<A, L>();
+        never_part::<A, L>();
         let closed = close(
             &self.parameters,
             &self.app,

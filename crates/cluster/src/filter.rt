@@ -11,7 +11,7 @@ use crate::places::{entry_at, heard_place, is_sound, place};
 use crate::row::heard_matches;
 use crate::{Filtered, Refused, TakenIn};
 use layers::layer::Layer;
-use protocol::promise;
+use protocol::never_part;
 use questions::asking::stage_refusal;
 use quorum::is_set;
 use values::{Application, Entry, Value};
@@ -121,7 +121,7 @@ impl<A: Application, L: Layer> TakenIn<A, L> {
             (lent state.now own.now agreed.now run.now accept.new yes.now heard.new candidates.now chosen.now)
             result }
     {
-        promise::<A, L>();
+        never_part::<A, L>();
         let fit = self.parameters.tables_fit(
             state.len(),
             own.len(),

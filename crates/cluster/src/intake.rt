@@ -11,7 +11,7 @@ use crate::moves::to_taken_in;
 use crate::places::is_sound;
 use crate::{Refused, Rest, TakenIn};
 use layers::layer::Layer;
-use protocol::promise;
+use protocol::never_part;
 use questions::asking::stage_refusal;
 use values::{Application, Entry, Value};
 
@@ -79,7 +79,7 @@ impl<A: Application, L: Layer> Rest<A, L> {
             (lent state.now own.new agreed.now run.new accept.now yes.now heard.now candidates.now chosen.now)
             result }
     {
-        promise::<A, L>();
+        never_part::<A, L>();
         let fit = self.parameters.tables_fit(
             state.len(),
             own.len(),

@@ -6,7 +6,7 @@ ghost use Rattle.cluster.specs.Answers.{LookAnswers};
 use crate::Rest;
 use crate::places::value_at;
 use layers::layer::Layer;
-use protocol::promise;
+use protocol::never_part;
 use questions::Refusal;
 use values::{Application, Entry, Value};
 
@@ -29,7 +29,7 @@ impl<A: Application, L: Layer> Rest<A, L> {
             (lent state.now own.now agreed.now run.now accept.now yes.now heard.now candidates.now chosen.now)
             result }
     {
-        promise::<A, L>();
+        never_part::<A, L>();
         let fit = self.parameters.tables_fit(
             state.len(),
             own.len(),

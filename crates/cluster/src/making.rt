@@ -6,7 +6,7 @@ ghost use Rattle.cluster.specs.Answers.{MakeAnswers};
 
 use crate::{Rest, Unmade};
 use layers::layer::Layer;
-use protocol::promise;
+use protocol::never_part;
 use questions::{Parameters, Refusal};
 use values::{Application, Entry, Value};
 
@@ -44,7 +44,7 @@ impl<A: Application, L: Layer> Rest<A, L> {
             (lent state.new own.now agreed.now run.now accept.now yes.now heard.now candidates.now chosen.now)
             result }
     {
-        promise::<A, L>();
+        never_part::<A, L>();
         let parameters = match Parameters::new(n, f, sensors, marks) {
             Ok(parameters) => parameters,
             Err(refusal) => {

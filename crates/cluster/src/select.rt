@@ -11,7 +11,7 @@ use crate::moves::to_chosen;
 use crate::places::is_sound;
 use crate::{Agreed, Chosen, Refused};
 use layers::layer::Layer;
-use protocol::promise;
+use protocol::never_part;
 use questions::asking::stage_refusal;
 use selections::Selection;
 use values::{Application, Entry, Value};
@@ -88,7 +88,7 @@ impl<A: Application, L: Layer> Agreed<A, L> {
             (lent state.now own.now agreed.now run.now accept.now yes.now heard.now candidates.now chosen.new)
             result }
     {
-        promise::<A, L>();
+        never_part::<A, L>();
         let fit = self.parameters.tables_fit(
             state.len(),
             own.len(),

@@ -7,7 +7,7 @@ use crate::turns::{at_rest, when_agreed, when_chosen, when_filtered, when_taken_
 use crate::{Answer, AnyStage, Call, Progress};
 use cluster::{Rest, Unmade};
 use layers::layer::Layer;
-use protocol::promise;
+use protocol::never_part;
 use selections::Selection;
 use values::{Application, Entry, Value};
 
@@ -66,7 +66,7 @@ pub fn perform<A: Application, L: Layer, Z: Selection<A::Reading>>(
     ensures { Performs (semantics A.Reading.Value A.State.Value A.Command.Value A.Application L.Layer) Z.Selection.choice from (lent state.old own.old agreed.old run.old accept.old yes.old heard.old candidates.old chosen.old)
         calls.now result (lent state.new own.new agreed.new run.new accept.new yes.new heard.new candidates.new chosen.new) }
 {
-    promise::<A, L>();
+    never_part::<A, L>();
     let mut progress = from;
     for call in calls {
         progress = turn(

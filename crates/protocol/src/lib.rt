@@ -14,14 +14,7 @@ pub enum Turn {
     Behind,
 }
 
-// Sound replicas never part, whatever the application and the layer: every run is consistent with the model.
-pub fn never_part<A: Application, L: Layer>(app: &A, layer: &L)
-    ensures { NeverPart (semantics A.Reading.Value A.State.Value A.Command.Value A.Application L.Layer) }
-{
-    promise::<A, L>();
-}
-
-// The same where neither an application nor a layer is at hand.
-pub fn promise<A: Application, L: Layer>()
+// Sound replicas never part, whatever the application and the layer: every run is consistent with the model. It does nothing when run; a call of it cites the theorem.
+pub fn never_part<A: Application, L: Layer>()
     ensures { NeverPart (semantics A.Reading.Value A.State.Value A.Command.Value A.Application L.Layer) }
 {}

@@ -40,6 +40,13 @@ impl<'a, V: Value> Entries for &'a [Entry<V>] {
     }
 }
 
+// The entry at a place of a slice, missing past its end.
+pub fn entry_at<V: Value>(entries: &[Entry<V>], i: usize) -> Entry<V>
+    ensures { result ≡ entry_at entries.now i }
+{
+    entries.get(i).copied().flatten()
+}
+
 // How many entries are present.
 pub fn presence<E: Entries>(entries: &E) -> usize
     ensures { result ≡ present_in (E.Entries.size entries.now) (E.Entries.entry entries.now) }

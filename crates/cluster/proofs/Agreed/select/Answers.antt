@@ -9,13 +9,13 @@ use Rattle.cluster.proofs.Agreed.select.Goals as goal
 pub returns-in-Some : goal.returns-in-Some
 unfolding in_turn
 returns-in-Some g c =
-    rejected _ c.promise.ensures _ agreed refl _ _ (λ start. verdict-select _ _ _ ∙ stage_told _ _ _ true c.tables_fit-fit.ensures c.in-Some.ensures) _ _ refl _
+    rejected _ c.never_part.ensures _ agreed refl _ _ (λ start. verdict-select _ _ _ ∙ stage_told _ _ _ true c.tables_fit-fit.ensures c.in-Some.ensures) _ _ refl _
 
 pub returns : goal.returns
 unfolding in_turn
 returns g c =
     let s = c.args.selection.now in
-    accepted _ c.promise.ensures _ agreed refl _ _ _ _ _ _ refl (λ start. g.met.S.Selection.chooses s) (λ start. verdict-select _ _ _ ∙ stage_told _ _ _ true c.tables_fit-fit.ensures c.in_default.ensures)
+    accepted _ c.never_part.ensures _ agreed refl _ _ _ _ _ _ refl (λ start. g.met.S.Selection.chooses s) (λ start. verdict-select _ _ _ ∙ stage_told _ _ _ true c.tables_fit-fit.ensures c.in_default.ensures)
     c.to_chosen.ensures (λ start last. record {
       stage = refl;
       sizes = same_sizes _ _ refl refl refl refl refl refl refl refl c.write_chosen.auto.chosen;

@@ -6,4 +6,4 @@ use Rattle.cluster.proofs.Chosen.abandon.Goals as goal
 
 pub returns : goal.returns
 unfolding in_turn
-returns g c = abandoned _ c.promise.ensures chosen refl _ _ c.at_rest.ensures
+returns g c = abandoned _ c.never_part.ensures chosen refl _ _ c.at_rest.ensures

@@ -10,7 +10,7 @@ pub returns-in-Ok : goal.returns-in-Ok
 unfolding in_turn
 returns-in-Ok g c =
     let k = c.in-Ok.ensures in
-    accepted _ c.promise.ensures _ chosen refl _ _ _ _ _ _ refl (λ start. tt) (λ start. verdict-commit _ _ _ _ ∙ k.asked) c.at_rest.ensures (λ start last. record {
+    accepted _ c.never_part.ensures _ chosen refl _ _ _ _ _ _ refl (λ start. tt) (λ start. verdict-commit _ _ _ _ ∙ k.asked) c.at_rest.ensures (λ start last. record {
       stage = refl;
       sizes = same_sizes _ _ k.long refl refl refl refl refl refl refl refl;
       state = k.state;
@@ -35,5 +35,5 @@ unfolding in_turn
 returns-in-Err g c =
     let a = c.args in
     let k = c.in-Err.ensures in
-    rejected _ c.promise.ensures _ chosen refl _ _ (λ start. verdict-commit _ _ _ _ ∙ k.asked) _ _
+    rejected _ c.never_part.ensures _ chosen refl _ _ (λ start. verdict-commit _ _ _ _ ∙ k.asked) _ _
     (ap (λ s. lent s a.own.now a.agreed.now a.run.now a.accept.now a.yes.now a.heard.now a.candidates.now a.chosen.now) k.state) _

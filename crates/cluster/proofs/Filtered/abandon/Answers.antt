@@ -6,4 +6,4 @@ use Rattle.cluster.proofs.Filtered.abandon.Goals as goal
 
 pub returns : goal.returns
 unfolding in_turn
-returns g c = abandoned _ c.promise.ensures filtered refl _ _ c.at_rest.ensures
+returns g c = abandoned _ c.never_part.ensures filtered refl _ _ c.at_rest.ensures

@@ -9,7 +9,7 @@ use Rattle.cluster.proofs.Filtered.agree.Goals as goal
 pub returns-in-Some : goal.returns-in-Some
 unfolding in_turn
 returns-in-Some g c =
-    rejected _ c.promise.ensures _ filtered refl _ _ (λ start. verdict-agree _ _ _ ∙ stage_told _ _ _ true c.tables_fit-fit.ensures c.in-Some.ensures) _ _ refl _
+    rejected _ c.never_part.ensures _ filtered refl _ _ (λ start. verdict-agree _ _ _ ∙ stage_told _ _ _ true c.tables_fit-fit.ensures c.in-Some.ensures) _ _ refl _
 
 pub write_agreed-requires : goal.write_agreed-requires
 write_agreed-requires g c =
@@ -26,7 +26,7 @@ unfolding in_turn
 returns g c =
     let a = c.args in
     let p = a.self.parameters in
-    accepted _ c.promise.ensures _ filtered refl _ _ _ _ _ _ refl (λ start. tt) (λ start. verdict-agree _ _ _ ∙ stage_told _ _ _ true c.tables_fit-fit.ensures c.in_default.ensures) c.to_agreed.ensures
+    accepted _ c.never_part.ensures _ filtered refl _ _ _ _ _ _ refl (λ start. tt) (λ start. verdict-agree _ _ _ ∙ stage_told _ _ _ true c.tables_fit-fit.ensures c.in_default.ensures) c.to_agreed.ensures
     (λ start last. record {
       stage = refl;
       sizes = same_sizes _ _ refl refl c.write_agreed.auto.agreed refl refl c.write_yes.auto.yes refl c.write_candidates.auto.candidates refl;

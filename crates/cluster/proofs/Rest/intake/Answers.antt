@@ -12,7 +12,7 @@ use Rattle.cluster.proofs.Rest.intake.Goals as goal
 pub returns-in-Some : goal.returns-in-Some
 unfolding in_turn
 returns-in-Some g c =
-    rejected _ c.promise.ensures _ rest refl _ _ (λ start. verdict-intake _ _ _ ∙ stage_told _ _ _ _ c.tables_fit-fit.ensures c.in-Some.ensures) _ _ refl _
+    rejected _ c.never_part.ensures _ rest refl _ _ (λ start. verdict-intake _ _ _ ∙ stage_told _ _ _ _ c.tables_fit-fit.ensures c.in-Some.ensures) _ _ refl _
 
 pub returns : goal.returns
 unfolding in_turn
@@ -21,7 +21,7 @@ returns g c =
     let w = semantics g.A.Reading.Value g.A.State.Value g.A.Command.Value g.A.Application g.L.Layer in
     let t = lent a.state.now a.own.now a.agreed.now a.run.now a.accept.now a.yes.now a.heard.now a.candidates.now a.chosen.now in
     let fit : Fits a.self.parameters.n a.self.parameters.sensors (sizes t) = granted_fits _ _ _ _ _ c.tables_fit-fit.ensures c.in_default.ensures in
-    accepted w c.promise.ensures (intake (sizes t) a.entries.now) rest refl (of_rest a.self) taken_in t _ nothing _ refl (λ start. tt)
+    accepted w c.never_part.ensures (intake (sizes t) a.entries.now) rest refl (of_rest a.self) taken_in t _ nothing _ refl (λ start. tt)
     (λ start. verdict-intake _ _ _ ∙ stage_told _ _ _ _ c.tables_fit-fit.ensures c.in_default.ensures) c.to_taken_in.ensures (λ start last. record {
       stage = refl;
       sizes = same_sizes _ _ refl c.write_own.auto.own refl c.write_run.auto.run refl refl refl refl refl;

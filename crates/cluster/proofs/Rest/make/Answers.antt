@@ -15,6 +15,6 @@ returns g c =
     let fit : fits a.n a.sensors (sizes t) ≡ true = cc (c.tables_fit-fit.ensures, c.if-not-fit.false, ok.n_is, ok.sensors_is) in
     let each = fits_each a.n a.sensors (sizes t) fit in
     let long : length c.write_start.new.state ≡ length a.state.now = c.write_start.auto.state in
-    started _ c.promise.ensures _ a.start t _ p ok fit
+    started _ c.never_part.ensures _ a.start t _ p ok fit
     (ap (λ m. record { state = m; own = (sizes t).own; agreed = (sizes t).agreed; run = (sizes t).run; accept = (sizes t).accept; yes = (sizes t).yes; heard = (sizes t).heard; candidates = (sizes t).candidates; chosen = (sizes t).chosen }) long)
     (λ last. record { stage = refl; state = λ i h. value_is _ i a.start (omega (arith, each.state)) (c.write_start.ensures i (omega (arith, each.state))) })

@@ -6,4 +6,4 @@ use Rattle.cluster.proofs.TakenIn.abandon.Goals as goal
 
 pub returns : goal.returns
 unfolding in_turn
-returns g c = abandoned _ c.promise.ensures taken_in refl _ _ c.at_rest.ensures
+returns g c = abandoned _ c.never_part.ensures taken_in refl _ _ c.at_rest.ensures

@@ -11,12 +11,12 @@ use Rattle.cluster.proofs.TakenIn.filter.Goals as goal
 pub returns-in-Some : goal.returns-in-Some
 unfolding in_turn
 returns-in-Some g c =
-    rejected _ c.promise.ensures _ taken_in refl _ _ (λ start. verdict-filter _ _ _ ∙ stage_told _ _ _ _ c.tables_fit-fit.ensures c.in-Some.ensures) _ _ refl _
+    rejected _ c.never_part.ensures _ taken_in refl _ _ (λ start. verdict-filter _ _ _ ∙ stage_told _ _ _ _ c.tables_fit-fit.ensures c.in-Some.ensures) _ _ refl _
 
 pub returns : goal.returns
 unfolding in_turn
 returns g c =
-    accepted _ c.promise.ensures _ taken_in refl _ _ _ _ _ _ refl (λ start. tt) (λ start. verdict-filter _ _ _ ∙ stage_told _ _ _ _ c.tables_fit-fit.ensures c.in_default.ensures) c.to_filtered.ensures
+    accepted _ c.never_part.ensures _ taken_in refl _ _ _ _ _ _ refl (λ start. tt) (λ start. verdict-filter _ _ _ ∙ stage_told _ _ _ _ c.tables_fit-fit.ensures c.in_default.ensures) c.to_filtered.ensures
     (λ start last. record {
       stage = refl;
       sizes = same_sizes _ _ refl refl refl refl c.write_accept.auto.accept refl c.write_heard.auto.heard refl refl;

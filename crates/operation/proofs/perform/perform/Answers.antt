@@ -19,4 +19,4 @@ loop-call-preserved g c =
     }
 
 pub returns : goal.returns
-returns g c = all_done _ g.Z.Selection.choice c.args.from _ c.args.calls.now c.loop-call.call-index _ _ c.promise.ensures c.loop-call-test.false c.loop-call.invariant.each c.loop-call.invariant.runs
+returns g c = all_done _ g.Z.Selection.choice c.args.from _ c.args.calls.now c.loop-call.call-index _ _ c.never_part.ensures c.loop-call-test.false c.loop-call.invariant.each c.loop-call.invariant.runs

@@ -1,6 +1,6 @@
 use Rattle.protocol.specs.Clusters.{semantics}
 use Rattle.protocol.proofs.Clusters.{runs_never_part}
-use Rattle.protocol.proofs.promise.Goals as goal
+use Rattle.protocol.proofs.never_part.Goals as goal
 
 pub returns : goal.returns
 returns g c =

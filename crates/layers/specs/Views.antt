@@ -1,7 +1,7 @@
 -- The code's tables as the functions that the algorithm speaks of.
 use Rattle.std.specs.Prelude.{◌≡◌, ℕ, ◌+◌, Bool, true, false, cond, List, get_or, slice_index_or}
 use Rattle.quorum.specs.Counting.{count}
-use Rattle.layers.specs.declared.phase.Phase.{Phase}
+use Rattle.layers.specs.declared.layer.Instance.{Instance}
 use Rattle.layers.specs.declared.said.Said.{Said}
 use Rattle.layers.specs.declared.said.Said.TheVariants.{Silent}
 use Rattle.layers.specs.declared.said.Taken.{Taken}
@@ -9,8 +9,8 @@ use Rattle.layers.specs.declared.said.Tally.{Tally}
 use Rattle.layers.specs.King.{Given, says, taken, firm, king_at}
 use Rattle.layers.specs.Layers.{bit_from}
 
--- what a phase's instance is given
-abbrev pub given : Phase → Given
+-- what an instance is given
+abbrev pub given : Instance → Given
 given s = record { n = s.n; f = s.f; marks = s.marks; words = s.words.now }
 
 -- a replica's bit, what it says and what it took, by its place in a table

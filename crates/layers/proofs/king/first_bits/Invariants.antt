@@ -5,4 +5,6 @@ use Rattle.layers.proofs.king.first_bits.Given as goal
 
 -- the sender has given its bit to the replicas below i
 abbrev pub invariant-loop-i : goal.invariant-loop-i
-invariant-loop-i l = (length l.bits ≡ 16) × ((k : ℕ) → k < l.i → bits_of l.bits k ≡ bit_from l.marks l.sender l.bit l.words k)
+invariant-loop-i l =
+    let g = l.instance in
+    (length l.bits ≡ 16) × ((k : ℕ) → k < l.i → bits_of l.bits k ≡ bit_from g.marks g.sender g.bit g.words.now k)

@@ -7,16 +7,17 @@ ghost use Rattle.layers.specs.Agreement.{king_bounded, king_agreement, king_vali
 
 use crate::layer::{Instance, Layer};
 use crate::phase::{Phase, phase_size};
+use crate::table::fill;
 
 // The bits that the sender gives to all.
 fn first_bits(instance: &Instance<'_>) -> [bool; 16]
     ensures { let g = instance.now in (i : ℕ) → i < g.n → bits_of result i ≡ bit_from g.marks g.sender g.bit g.words.now i }
 {
-    let mut bits = [false; 16];
-    for i in 0..instance.n {
-        bits[i] = instance.bit_from(instance.sender, instance.bit, i);
-    }
-    bits
+    fill(
+        instance.n,
+        false,
+        |i| instance.bit_from(instance.sender, instance.bit, i),
+    )
 }
 
 // The replicas' bits after f + 1 phases.

@@ -6,6 +6,7 @@ ghost use Rattle.layers.specs.Views.{given, bits_of, said_of, taken_of, taken_at
 use crate::layer::Instance;
 use crate::phase::Phase;
 use crate::said::{Said, Taken, Tally, Voice};
+use crate::table::fill;
 use crate::words::byte_at;
 use quorum::is_set;
 
@@ -68,25 +69,22 @@ impl Phase<'_> {
     fn propose_all(&self, bits: &[bool; 16]) -> [Said; 16]
         ensures { (i : ℕ) → i < self.now.instance.n → said_of result i ≡ proposal (given self.now.instance) self.now.king (bits_of bits.now) i }
     {
-        let mut proposals = [Said::Silent; 16];
-        for i in 0..self.instance.n {
-            proposals[i] = self.propose(bits, i);
-        }
-        proposals
+        fill(self.instance.n, Said::Silent, |i| self.propose(bits, i))
     }
 
     // What every replica takes from the proposals.
     fn take_all(&self, bits: &[bool; 16], proposals: &[Said; 16]) -> [Taken; 16]
         ensures { (i : ℕ) → i < self.now.instance.n → taken_of result i ≡ taken_at (given self.now.instance) self.now.king (said_of proposals.now) (bits_of bits.now) i }
     {
-        let mut taken = [Taken {
+        let nothing = Taken {
             bit: false,
             firm: false,
-        }; 16];
-        for i in 0..self.instance.n {
-            taken[i] = self.take_proposed(bits, proposals, i);
-        }
-        taken
+        };
+        fill(
+            self.instance.n,
+            nothing,
+            |i| self.take_proposed(bits, proposals, i),
+        )
     }
 
     // The bit of i once the king has given `kings` to all.
@@ -94,13 +92,11 @@ impl Phase<'_> {
         requires { i < self.now.instance.n }
         ensures { result ≡ settled_to (given self.now.instance) self.now.king taken kings i }
     {
-        if taken.firm {
-            taken.bit
-        } else {
-            let n = self.instance.n;
-            self.instance
-                .bit_from(self.king, kings, self.start + 2 * (n * n) + i)
-        }
+        let n = self.instance.n;
+        let told = self
+            .instance
+            .bit_from(self.king, kings, self.start + 2 * (n * n) + i);
+        if taken.firm { taken.bit } else { told }
     }
 
     // Every replica's bit once the king has given its own.
@@ -108,11 +104,7 @@ impl Phase<'_> {
         ensures { (i : ℕ) → i < self.now.instance.n → bits_of result i ≡ settled_by (given self.now.instance) self.now.king (taken_of taken.now) i }
     {
         let kings = taken[self.king].bit;
-        let mut bits = [false; 16];
-        for i in 0..self.instance.n {
-            bits[i] = self.settle(taken[i], kings, i);
-        }
-        bits
+        fill(self.instance.n, false, |i| self.settle(taken[i], kings, i))
     }
 
     // Every replica's bit after the phase.

@@ -98,11 +98,11 @@ impl Tally {
         match s {
             Said::Yes => Tally {
                 yes: self.yes + 1,
-                no: self.no,
+                ..self
             },
             Said::No => Tally {
-                yes: self.yes,
                 no: self.no + 1,
+                ..self
             },
             Said::Silent => self,
         }

@@ -1,6 +1,5 @@
 ghost use Rattle.std.specs.Prelude.{◌≡◌, ℕ, ◌<◌, ◌≤◌, length};
 ghost use Rattle.quorum.specs.Counting.{bit as is_set};
-ghost use Rattle.layers.specs.Layers.{bit_from};
 ghost use Rattle.layers.specs.King.{king, king_size};
 ghost use Rattle.layers.specs.Views.{bits_of};
 ghost use Rattle.layers.specs.Agreement.{king_bounded, king_agreement, king_validity};
@@ -9,22 +8,15 @@ use crate::layer::{Instance, Layer};
 use crate::phase::{Phase, phase_size};
 use crate::table::fill;
 
-// The bits that the sender gives to all.
-fn first_bits(instance: &Instance<'_>) -> [bool; 16]
-    ensures { let g = instance.now in (i : ℕ) → i < g.n → bits_of result i ≡ bit_from g.marks g.sender g.bit g.words.now i }
-{
-    fill(
-        instance.n,
-        false,
-        |i| instance.bit_from(instance.sender, instance.bit, i),
-    )
-}
-
-// The replicas' bits after f + 1 phases.
+// The replicas' bits after the sender gave its own, and after f + 1 phases.
 fn last_bits(instance: &Instance<'_>) -> [bool; 16]
     ensures { let g = instance.now in (i : ℕ) → i < g.n → bits_of result i ≡ king g.n g.f g.marks g.sender g.bit g.words.now i }
 {
-    let mut bits = first_bits(instance);
+    let mut bits = fill(
+        instance.n,
+        false,
+        |i| instance.bit_from(instance.sender, instance.bit, i),
+    );
     for king in 0..instance.f + 1 {
         bits = Phase::new(instance, king).run(&bits);
     }

@@ -1,7 +1,7 @@
 // The rounds of a phase: votes, proposals and the king's round.
 ghost use Rattle.std.specs.Prelude.{◌≡◌, ℕ, ◌+◌, ◌*◌, ◌<◌, ◌≤◌, length, slice_index_or};
 ghost use Rattle.layers.specs.King.{heard, proposal, phase};
-ghost use Rattle.layers.specs.Views.{given, bits_of, said_of, taken_of, taken_at, settled_to, settled_by, Counted};
+ghost use Rattle.layers.specs.Views.{given, bits_of, said_of, taken_at, settled_to, Counted};
 
 use crate::layer::Instance;
 use crate::phase::Phase;
@@ -65,28 +65,6 @@ impl Phase<'_> {
         }
     }
 
-    // What every replica proposes.
-    fn propose_all(&self, bits: &[bool; 16]) -> [Said; 16]
-        ensures { (i : ℕ) → i < self.now.instance.n → said_of result i ≡ proposal (given self.now.instance) self.now.king (bits_of bits.now) i }
-    {
-        fill(self.instance.n, Said::Silent, |i| self.propose(bits, i))
-    }
-
-    // What every replica takes from the proposals.
-    fn take_all(&self, bits: &[bool; 16], proposals: &[Said; 16]) -> [Taken; 16]
-        ensures { (i : ℕ) → i < self.now.instance.n → taken_of result i ≡ taken_at (given self.now.instance) self.now.king (said_of proposals.now) (bits_of bits.now) i }
-    {
-        let nothing = Taken {
-            bit: false,
-            firm: false,
-        };
-        fill(
-            self.instance.n,
-            nothing,
-            |i| self.take_proposed(bits, proposals, i),
-        )
-    }
-
     // The bit of i once the king has given `kings` to all.
     fn settle(&self, taken: Taken, kings: bool, i: usize) -> bool
         requires { i < self.now.instance.n }
@@ -99,20 +77,18 @@ impl Phase<'_> {
         if taken.firm { taken.bit } else { told }
     }
 
-    // Every replica's bit once the king has given its own.
-    fn settle_all(&self, taken: &[Taken; 16]) -> [bool; 16]
-        ensures { (i : ℕ) → i < self.now.instance.n → bits_of result i ≡ settled_by (given self.now.instance) self.now.king (taken_of taken.now) i }
-    {
-        let kings = taken[self.king].bit;
-        fill(self.instance.n, false, |i| self.settle(taken[i], kings, i))
-    }
-
     // Every replica's bit after the phase.
     pub fn run(&self, bits: &[bool; 16]) -> [bool; 16]
         ensures { (i : ℕ) → i < self.now.instance.n → bits_of result i ≡ phase (given self.now.instance) self.now.king (bits_of bits.now) i }
     {
-        let proposals = self.propose_all(bits);
-        let taken = self.take_all(bits, &proposals);
-        self.settle_all(&taken)
+        let n = self.instance.n;
+        let nothing = Taken {
+            bit: false,
+            firm: false,
+        };
+        let proposals = fill(n, Said::Silent, |i| self.propose(bits, i));
+        let taken = fill(n, nothing, |i| self.take_proposed(bits, &proposals, i));
+        let kings = taken[self.king].bit;
+        fill(n, false, |i| self.settle(taken[i], kings, i))
     }
 }

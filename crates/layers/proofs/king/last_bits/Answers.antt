@@ -1,8 +1,11 @@
-use Rattle.std.proofs.Common.{◌≡◌, ℕ, sym, ap, ◌∙◌, ap₂, add-one, arith}
+use Rattle.std.proofs.Common.{◌≡◌, ℕ, sym, ap, ◌∙◌, ap₂, add-one, arith, rules}
 use Rattle.layers.specs.King.{Given, bits_after, phase}
 use Rattle.layers.specs.Views.{bits_of, given}
 use Rattle.layers.proofs.Same.{phase_same}
 use Rattle.layers.proofs.king.last_bits.Goals as goal
+
+pub loop-king-init : goal.loop-king-init
+loop-king-init c k h = let filled = c.fill-bits.ensures k h in search rules
 
 pub loop-king-preserved : goal.loop-king-preserved
 loop-king-preserved c k h =

@@ -1,15 +1,8 @@
-use Rattle.std.proofs.Common.{ℕ, ◌+◌, ◌*◌, Bool, ap, ◌∙◌, arith}
-use Rattle.std.proofs.lemmas.Nat.{mul-le}
+use Rattle.std.proofs.Common.{ℕ, ◌+◌, ◌*◌, Bool, ap, ◌∙◌}
 use Rattle.layers.specs.King.{tally}
 use Rattle.layers.specs.Views.{given, bits_of, said_of}
 use Rattle.layers.proofs.Same.{counted_is, taken_from, taken_steps}
 use Rattle.layers.proofs.phase.Phase.take_proposed.Goals as goal
-
-pub tally-tally-requires : goal.tally-tally-requires
-tally-tally-requires c =
-    let g = c.args.self.now.instance in
-    let square = mul-le g.n g.n 16 16 g.sized.0 g.sized.0 in
-    record { start = omega arith; receiver = c.requires; speakers = omega arith }
 
 pub returns : goal.returns
 returns c =

@@ -1,5 +1,0 @@
-use Rattle.std.proofs.Common.{rules}
-use Rattle.layers.proofs.phase.Phase.settle_all.Goals as goal
-
-pub returns : goal.returns
-returns c i h = let filled = c.fill.ensures i h in search rules

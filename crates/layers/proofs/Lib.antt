@@ -1,3 +1,3 @@
-pub mod Masks
 pub mod Same
 pub mod Tallies
+pub mod Masks

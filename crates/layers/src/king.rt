@@ -26,7 +26,7 @@ fn last_bits(instance: &Instance<'_>) -> [bool; 16]
 // A word with the bits of the list.
 fn gather(bits: &[bool]) -> u16
     requires { length bits.now ≤ 16 }
-    ensures { (i : ℕ) → i < length bits.now → is_set result i ≡ bits_of bits.now i }
+    ensures { (i : ℕ) → is_set result i ≡ bits_of bits.now i }
 {
     let mut word: u16 = 0;
     for (j, b) in bits.iter().enumerate() {

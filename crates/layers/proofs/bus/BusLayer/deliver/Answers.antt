@@ -1,6 +1,6 @@
-use Rattle.std.proofs.Common.{◌∙◌, arith}
-use Rattle.layers.proofs.Masks.{all_set}
+use Rattle.std.proofs.Common.{ℕ, eqb, ap, ◌∙◌, arith}
+use Rattle.std.proofs.lemmas.Nat.Bits.{bit_at_ones}
 use Rattle.layers.proofs.bus.BusLayer.deliver.Goals as goal
 
 pub returns-then-bit_from-clause-gets : goal.returns-then-bit_from-clause-gets
-returns-then-bit_from-clause-gets c i h s = all_set i (omega arith) ∙ c.if-bit_from.ensures
+returns-then-bit_from-clause-gets c i h s = ap (λ (d : ℕ). eqb d 1) (bit_at_ones 16 i (omega arith)) ∙ c.if-bit_from.ensures

@@ -5,7 +5,7 @@ ghost use Rattle.std.specs.Prelude.{◌*◌, ◌<◌, ◌≤◌};
 
 use anyhow::anyhow;
 use layers::king::PhaseKing;
-use layers::layer::Layer;
+use layers::layer::{Instance, Layer};
 use quorum::is_set;
 use std::alloc::{AllocError, Global};
 use std::env;
@@ -61,7 +61,14 @@ fn run(n: usize, f: usize, words: &[u8]) -> (u32, u32)
             let sender = k % n;
             let bit = k % 3 == 0;
             let marks = marks_of(n, f, k);
-            let got = PhaseKing.deliver(n, f, marks, sender, bit, &words[from..]);
+            let got = PhaseKing.deliver(&Instance {
+                n,
+                f,
+                marks,
+                sender,
+                bit,
+                words: &words[from..],
+            });
             split = split.saturating_add(is_split(got, all & !marks) as u32);
             lost = lost.saturating_add(is_lost(got, all & !marks, sender, bit) as u32);
         }

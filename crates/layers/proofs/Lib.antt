@@ -1,4 +1,3 @@
-pub mod Masks
 pub mod Same
-pub mod Tables
 pub mod Tallies
+pub mod Masks

@@ -1,50 +1,41 @@
--- Words of 16 bits as sets of replicas.
-use Rattle.std.proofs.Common.{◌≡◌, ℕ, suc, ◌+◌, ◌-◌, ◌*◌, ◌/◌, ◌%◌, ◌^◌, ◌<◌, Bool, true, false, eqb, sym, refl, ap, ◌∙◌, one-mul, pow-suc, add-one, arith, pow_pos, pow-add, below_more}
-use native.Mathlib.Nat.{mul-add-div_right}
-use lib.Bits.{bit_or, or_shifted_r}
-use lib.Pow.{high}
-use Rattle.std.proofs.lemmas.Nat.{one_shl}
-use Rattle.quorum.specs.Counting.{bit, count}
-use Rattle.quorum.proofs.Bits.{bit_above}
-use Rattle.quorum.proofs.Counts.{count_each}
+-- A word of 16 bits made from a list, bit by bit.
+use Rattle.std.proofs.Common.{◌≡◌, ℕ, ◌+◌, ◌*◌, ◌%◌, ◌^◌, ◌<◌, ◌≢◌, Bool, true, false, eqb, List, length, take, sym, ap, ◌∙◌, inl, inr, arith, length-take, w16}
+use Rattle.std.proofs.Math.ListN.{get_or-eq_default}
+use lib.Bits.{bit_or}
+use Rattle.std.proofs.lemmas.Bool.{cases_eq, cases_lt}
+use Rattle.std.proofs.lemmas.List.{get_or-take}
+use Rattle.std.proofs.lemmas.Nat.Bits.{bit_at_set_same, bit_at_set_other}
+use Rattle.quorum.specs.Counting.{bit}
+use Rattle.layers.specs.Views.{bits_of}
 
-pub all_set : (i : ℕ) → i < 16 → bit 65535 i ≡ true
-unfolding count
-all_set = count_each 16 (bit 65535) refl
+module _ (bits : List Bool) (j : ℕ) (within : j < length bits) where
+  -- past the bits taken there is none
+  none_past : bits_of (take j bits) j ≡ false
+  none_past = get_or-eq_default (take j bits) false (omega (arith, length-take j bits))
 
--- ---- a word made bit by bit
+  -- one more bit taken leaves the others
+  others : (k : ℕ) → k ≢ j → bits_of (take (j + 1) bits) k ≡ bits_of (take j bits) k
+  others k ne =
+      elim (cases_lt k j) [
+        | inl l ↦ get_or-take (j + 1) bits k false (omega arith) ∙ sym (get_or-take j bits k false l)
+        | inr l ↦
+            get_or-eq_default (take (j + 1) bits) false (omega (arith, length-take (j + 1) bits))
+            ∙ sym (get_or-eq_default (take j bits) false (omega (arith, length-take j bits)))
+      ]
 
--- a bit set above a word
-bit_top : (w j : ℕ) → w < 2 ^ j → bit (1 * 2 ^ j + w) j ≡ true
-bit_top w j h = ap (λ (x : ℕ). eqb (x % 2) 1) (high 1 j h)
+  -- One turn of the loop: w has the bits before j, and v is the word after it.
+  module _ (w : ℕ) (before : (k : ℕ) → bit w k ≡ bits_of (take j bits) k) (v : ℕ) where
+    gathered : bit v j ≡ bits_of bits j → ((k : ℕ) → k ≢ j → bit v k ≡ bit w k) → (k : ℕ) → bit v k ≡ bits_of (take (j + 1) bits) k
+    gathered here kept k =
+        elim (cases_eq k j) [
+          | inl e ↦ ap (bit v) e ∙ here ∙ sym (get_or-take (j + 1) bits j false (omega arith)) ∙ ap (bits_of (take (j + 1) bits)) (sym e)
+          | inr ne ↦ kept k ne ∙ before k ∙ sym (others k ne)
+        ]
 
-even_add : (e y : ℕ) → (2 ^ suc e + y) % 2 ≡ y % 2
-even_add e y = omega (arith, pow-suc 2 e)
+    pub gather_no : bits_of bits j ≡ false → v ≡ w → (k : ℕ) → bit v k ≡ bits_of (take (j + 1) bits) k
+    gather_no e is = gathered (ap (λ (x : ℕ). bit x j) is ∙ before j ∙ none_past ∙ sym e) (λ k _. ap (λ (x : ℕ). bit x k) is)
 
--- leaves the bits under it
-bit_under : (w j k : ℕ) → k < j → bit (1 * 2 ^ j + w) k ≡ bit w k
-bit_under w j k h =
-    let e = j - suc k in
-    let whole : 1 * 2 ^ j ≡ 2 ^ suc e * 2 ^ k = one-mul (2 ^ j) ∙ ap (λ (x : ℕ). 2 ^ x) (omega arith) ∙ pow-add 2 (suc e) k in
-    let div : (2 ^ suc e * 2 ^ k + w) / 2 ^ k ≡ 2 ^ suc e + w / 2 ^ k = mul-add-div_right (pow_pos k) (2 ^ suc e) w in
-    ap (λ (x : ℕ). eqb (x % 2) 1) (ap (λ (x : ℕ). (x + w) / 2 ^ k) whole ∙ div) ∙ ap (λ (x : ℕ). eqb x 1) (even_add e (w / 2 ^ k))
-
--- One turn of a loop that gathers bits into a word: g says which, and v is the word after it.
-module _ (g : ℕ → Bool) (w j : ℕ) (below : w < 2 ^ j) (so_far : (k : ℕ) → k < j → bit w k ≡ g k) where
-  pub gather_no : g j ≡ false → (v : ℕ) → v ≡ w → (v < 2 ^ (j + 1)) × ((k : ℕ) → k < j + 1 → bit v k ≡ g k)
-  gather_no e v is = (
-    omega (arith, pow-suc 2 j, ap (λ (x : ℕ). 2 ^ x) (add-one j)),
-    below_more (λ k. bit v k ≡ g k) j
-        (λ k h. ap (λ (x : ℕ). bit x k) is ∙ so_far k h)
-        (ap (λ (x : ℕ). bit x j) is ∙ bit_above w j j below (omega arith) ∙ sym e),
-  )
-
-  pub gather_yes : j < 16 → g j ≡ true → (v : ℕ) → v ≡ bit_or w ((1 * 2 ^ j) % 2 ^ 16) → (v < 2 ^ (j + 1)) × ((k : ℕ) → k < j + 1 → bit v k ≡ g k)
-  gather_yes small e v is-or =
-      let whole : (1 * 2 ^ j) % 2 ^ 16 ≡ 1 * 2 ^ j = one_shl j 16 small ∙ sym (one-mul (2 ^ j)) in
-      let is : v ≡ 1 * 2 ^ j + w = is-or ∙ ap (bit_or w) whole ∙ or_shifted_r 1 j w below in (
-        omega (arith, pow-suc 2 j, ap (λ (x : ℕ). 2 ^ x) (add-one j)),
-        below_more (λ k. bit v k ≡ g k) j
-            (λ k h. ap (λ (x : ℕ). bit x k) is ∙ bit_under w j k h ∙ so_far k h)
-            (ap (λ (x : ℕ). bit x j) is ∙ bit_top w j below ∙ sym e),
-      )
+    pub gather_yes : j < 16 → bits_of bits j ≡ true → v ≡ bit_or w (1 * 2 ^ j % 2 ^ 16) → (k : ℕ) → bit v k ≡ bits_of (take (j + 1) bits) k
+    gather_yes small e is =
+        gathered (ap (λ (x : ℕ). bit x j) is ∙ ap (λ (d : ℕ). eqb d 1) (bit_at_set_same w16 w j small) ∙ sym e)
+        (λ k ne. ap (λ (x : ℕ). bit x k) is ∙ ap (λ (d : ℕ). eqb d 1) (bit_at_set_other w16 w j small k ne))

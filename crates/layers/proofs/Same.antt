@@ -1,15 +1,14 @@
 -- A phase depends only on what the n replicas have, propose and took.
-use Rattle.std.proofs.Common.{◌≡◌, ℕ, ◌+◌, ◌-◌, ◌*◌, ◌<◌, ◌≤◌, Bool, true, false, cond, leb, refl, ap, ◌∙◌, ap₂, arith}
+use Rattle.std.proofs.Common.{◌≡◌, ℕ, ◌+◌, ◌-◌, ◌*◌, ◌<◌, Bool, true, false, cond, List, leb, get_or, refl, ap, ◌∙◌, ap₂}
 use mathlib.Core.Path.{fun_ext}
-use Rattle.std.proofs.lemmas.Nat.{mul-le}
 use Rattle.quorum.specs.Counting.{bit, count}
 use Rattle.quorum.proofs.Counts.{count_same}
 use Rattle.layers.specs.declared.said.Said.{Said}
 use Rattle.layers.specs.declared.said.Taken.{Taken}
 use Rattle.layers.specs.declared.said.Tally.{Tally}
-use Rattle.layers.specs.Layers.{Sized, byte_at}
-use Rattle.layers.specs.King.{Given, said, says, aloud, enough, takes, heard, tally, votes_at, proposals_at, proposal, phase, phase_size}
-use Rattle.layers.specs.Views.{Counted, counted, taken_at, settled_to, settled_by}
+use Rattle.layers.specs.Layers.{byte_at}
+use Rattle.layers.specs.King.{Given, said, says, aloud, enough, takes, heard, tally, votes_at, proposals_at, proposal, phase}
+use Rattle.layers.specs.Views.{Counted, counted, taken_at, settled_to}
 
 -- a full tally holds the counts of both bits
 pub counted_is : (t : Tally) (n : ℕ) (v : ℕ → Said) → Counted t n v → counted t ≡ (λ b. count n (λ j. says b (v j)))
@@ -18,6 +17,14 @@ counted_is t n v h = fun_ext at
     at : (b : Bool) → counted t b ≡ count n (λ j. says b (v j))
     at true = h.0
     at false = h.1
+
+-- what a replica took, by its place in a table
+abbrev pub taken_of : List Taken → ℕ → Taken
+taken_of table j = get_or table j record { bit = false; firm = false }
+
+-- the bit of i once the king p has given the bit that it took, from what all took
+abbrev pub settled_by : Given → ℕ → (ℕ → Taken) → ℕ → Bool
+settled_by g p t i = settled_to g p (t i) (t p).bit i
 
 -- what a replica with a bit of its own takes from its counts of proposals
 abbrev pub taken_from : Given → (Bool → ℕ) → Bool → Taken
@@ -55,9 +62,3 @@ module _ (g : Given) where
     phase_same x y h =
         settled_same (taken_at g p (proposal g p x) x) (taken_at g p (proposal g p y) y) (taken_same (proposal g p x) (proposal g p y) x y
         (λ j _. ap (enough (g.n - g.f)) (tally_same (votes_at g p) (λ j. aloud (x j)) (λ j. aloud (y j)) (λ j l. ap aloud (h j l)) j)) h)
-
--- the words of a phase start far below what a place can be
-pub phase_start : (n f p : ℕ) → Sized n f → p ≤ f → n + p * phase_size n ≤ 65024
-phase_start n f p s l =
-    let square = mul-le n n 16 16 s.0 s.0 in
-    omega (arith, mul-le p (phase_size n) 5 528 (omega arith) (omega arith))

@@ -3,13 +3,13 @@ use Rattle.std.specs.Prelude.{◌≡◌, ℕ, suc, ◌+◌, ◌-◌, ◌*◌, �
 use Rattle.std.proofs.Common.{sym, ap, ◌∙◌, inl, inr, arith}
 use Rattle.std.proofs.Math.Decide.{le_ind}
 use Rattle.std.proofs.lemmas.Nat.{mul-le}
-use Rattle.std.proofs.lemmas.Bool.{cases_lt, cond-true, cond-false, le-leb, lt-leb, leb-true}
+use Rattle.std.proofs.lemmas.Bool.{cases_lt, cond-true, cond-false, le-leb, lt-leb, leb-true, not-true}
 use Rattle.quorum.specs.Counting.{bit}
 use Rattle.quorum.proofs.Counts.{count_not, count_reach, count_some, is_yes}
 use Rattle.layers.specs.declared.said.Said.{Said}
 use Rattle.layers.specs.Layers.{Sized, Sound, FewFaulty, Agreed, AllGet}
 use Rattle.layers.specs.King.{Given, says, aloud, enough, takes, votes_at, proposals_at, votes, proposal, proposals, taken, firm, kings_bit, phase, phase_size, king_size, bits_after, instance, king}
-use Rattle.layers.specs.Hearing.{unmarked, alike, opposed, unanimous, some_sound}
+use Rattle.layers.specs.Hearing.{alike, opposed, unanimous, some_sound}
 
 -- ---- thresholds
 
@@ -88,7 +88,7 @@ module _ (g : Given) (few : FewFaulty g.n g.f g.marks) (most : 3 * g.f < g.n) wh
   sound_king : (p : ℕ) × (p < g.f + 1) × Sound g.marks p
   sound_king =
       let z = count_some (g.f + 1) (λ j. not (bit g.marks j)) (omega (arith, count_not (g.f + 1) (bit g.marks), count_reach (bit g.marks) (g.f + 1) g.n (omega arith))) in
-      (z.0, z.1, unmarked _ z.2)
+      (z.0, z.1, not-true _ (is_yes _ z.2))
 
   module _ (sender : ℕ) (own : Bool) where
     -- a common bit lasts through any more phases

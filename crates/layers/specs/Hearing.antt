@@ -1,17 +1,13 @@
 -- What replicas hear in one round: from a sound one all hear the same, and the others are few.
-use Rattle.std.specs.Prelude.{◌≡◌, ℕ, ◌+◌, ◌<◌, ◌≤◌, Bool, true, false, not, ◌&&◌, T, refl}
+use Rattle.std.specs.Prelude.{◌≡◌, ℕ, ◌+◌, ◌<◌, ◌≤◌, Bool, true, false, not, ◌&&◌, T}
 use Rattle.std.proofs.Common.{sym, subst, ◌∙◌, arith}
-use Rattle.std.proofs.lemmas.Bool.{cond-false}
+use Rattle.std.proofs.lemmas.Bool.{cond-false, not-true}
 use Rattle.quorum.specs.Counting.{bit, count}
-use Rattle.quorum.proofs.Counts.{both, count_mono, count_none, count_not, count_some, count_split}
+use Rattle.quorum.proofs.Counts.{both, count_mono, count_none, count_not, count_some, count_split, is_yes}
 use Rattle.layers.specs.declared.said.Said.{Said}
 use Rattle.layers.specs.declared.said.Said.TheVariants.{Yes, No, Silent}
 use Rattle.layers.specs.Layers.{Sound, FewFaulty}
 use Rattle.layers.specs.King.{Given, says, aloud, heard, tally}
-
-pub unmarked : (b : Bool) → T (not b) → b ≡ false
-unmarked true t = absurd t
-unmarked false t = refl
 
 says_aloud : (b : Bool) → T (says b (aloud b))
 says_aloud true = tt
@@ -35,7 +31,7 @@ module _ (g : Given) (few : FewFaulty g.n g.f g.marks) where
   -- a test that at the sound implies another passes at most f times more
   nearly : (p q : ℕ → Bool) → ((j : ℕ) → j < g.n → Sound g.marks j → T (p j) → T (q j)) → count g.n p ≤ count g.n q + g.f
   nearly p q h =
-      omega (arith, sound_part p, count_mono g.n (λ j. p j && not (bit g.marks j)) q (λ j l t. let w = both (p j) _ t in h j l (unmarked _ w.1) w.0))
+      omega (arith, sound_part p, count_mono g.n (λ j. p j && not (bit g.marks j)) q (λ j l t. let w = both (p j) _ t in h j l (not-true _ (is_yes _ w.1)) w.0))
 
   -- One round: its words start at `at`, and the sound say `all`.
   module _ (at : ℕ) (all : ℕ → Said) where
@@ -74,4 +70,4 @@ module _ (g : Given) (few : FewFaulty g.n g.f g.marks) where
     some_sound b i h =
         let z = count_some g.n (λ j. says b (heard g at all i j) && not (bit g.marks j)) (omega (arith, sound_part (λ j. says b (heard g at all i j)))) in
         let w = both (says b (heard g at all i z.0)) _ z.2 in
-        (z.0, subst (λ (v : Said). T (says b v)) (heard_sound i z.0 (unmarked _ w.1)) w.0)
+        (z.0, subst (λ (v : Said). T (says b v)) (heard_sound i z.0 (not-true _ (is_yes _ w.1))) w.0)

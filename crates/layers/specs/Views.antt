@@ -1,7 +1,7 @@
 -- The code's tables as the functions that the algorithm speaks of.
-use Rattle.std.specs.Prelude.{◌≡◌, ℕ, ◌+◌, Bool, true, false, cond, List, get_or, slice_index_or}
+use Rattle.std.specs.Prelude.{◌≡◌, ℕ, ◌+◌, Bool, true, false, cond, List, slice_index_or}
 use Rattle.quorum.specs.Counting.{count}
-use Rattle.layers.specs.declared.phase.Phase.{Phase}
+use Rattle.layers.specs.declared.layer.Instance.{Instance}
 use Rattle.layers.specs.declared.said.Said.{Said}
 use Rattle.layers.specs.declared.said.Said.TheVariants.{Silent}
 use Rattle.layers.specs.declared.said.Taken.{Taken}
@@ -9,19 +9,16 @@ use Rattle.layers.specs.declared.said.Tally.{Tally}
 use Rattle.layers.specs.King.{Given, says, taken, firm, king_at}
 use Rattle.layers.specs.Layers.{bit_from}
 
--- what a phase's instance is given
-abbrev pub given : Phase → Given
+-- what an instance is given
+abbrev pub given : Instance → Given
 given s = record { n = s.n; f = s.f; marks = s.marks; words = s.words.now }
 
--- a replica's bit, what it says and what it took, by its place in a table
+-- a replica's bit, and what it says, by its place in a table
 abbrev pub bits_of : List Bool → ℕ → Bool
 bits_of bits j = slice_index_or bits j false
 
 abbrev pub said_of : List Said → ℕ → Said
 said_of props j = slice_index_or props j Silent
-
-abbrev pub taken_of : List Taken → ℕ → Taken
-taken_of table j = get_or table j record { bit = false; firm = false }
 
 -- what i takes from the proposals q in phase p
 abbrev pub taken_at : Given → ℕ → (ℕ → Said) → (ℕ → Bool) → ℕ → Taken
@@ -30,10 +27,6 @@ taken_at g p q x i = record { bit = taken g p q x i; firm = firm g p q x i }
 -- the bit of i, which took t, once the king p has given `kings` to all
 abbrev pub settled_to : Given → ℕ → Taken → Bool → ℕ → Bool
 settled_to g p t kings i = cond t.firm t.bit (bit_from g.marks p kings g.words (king_at g p + i))
-
--- the same, from what all took
-abbrev pub settled_by : Given → ℕ → (ℕ → Taken) → ℕ → Bool
-settled_by g p t i = settled_to g p (t i) (t p).bit i
 
 -- a tally's count of a bit
 abbrev pub counted : Tally → Bool → ℕ

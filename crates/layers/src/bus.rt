@@ -1,10 +1,9 @@
 ghost use Rattle.std.specs.Prelude.{◌≡◌, ℕ, ◌<◌, true, false};
 ghost use Rattle.quorum.specs.Counting.{bit as is_set};
-ghost use Rattle.layers.specs.Layers.{Sized, Sound, bit_from};
+ghost use Rattle.layers.specs.Layers.{Sound, bit_from};
 ghost use Rattle.std.proofs.Common.{rules};
 
-use crate::layer::Layer;
-use crate::words::bit_from;
+use crate::layer::{Instance, Layer};
 
 // A medium that all replicas read: what the sender puts on it reaches all alike.
 #[derive(Clone, Copy)]
@@ -26,14 +25,12 @@ impl Layer for Bus {
     }
 
     // All receivers read one bit, so all sixteen bits of the answer are alike.
-    fn deliver(&self, n: usize, f: usize, marks: u16, sender: usize, bit: bool, words: &[u8]) -> u16
-        requires sized { Sized n f }
-        requires sender_lt_n { sender < n }
-        ensures gets { (i : ℕ) → i < n → Sound marks i → is_set result i ≡ bit_from marks sender bit words.now 0 }
-        ensures none { bit_from marks sender bit words.now 0 ≡ false → result ≡ 0 }
-        ensures all { bit_from marks sender bit words.now 0 ≡ true → result ≡ 65535 }
+    fn deliver(&self, instance: &Instance<'_>) -> u16
+        ensures gets { let g = instance.now in (i : ℕ) → i < g.n → Sound g.marks i → is_set result i ≡ bit_from g.marks g.sender g.bit g.words.now 0 }
+        ensures none { let g = instance.now in bit_from g.marks g.sender g.bit g.words.now 0 ≡ false → result ≡ 0 }
+        ensures all { let g = instance.now in bit_from g.marks g.sender g.bit g.words.now 0 ≡ true → result ≡ 65535 }
     {
-        if bit_from(marks, sender, bit, words, 0) {
+        if instance.bit_from(instance.sender, instance.bit, 0) {
             u16::MAX
         } else {
             0

@@ -1,34 +1,24 @@
 ghost use Rattle.std.specs.Prelude.{◌≡◌, ℕ, ◌<◌, ◌≤◌, length};
 ghost use Rattle.quorum.specs.Counting.{bit as is_set};
-ghost use Rattle.layers.specs.Layers.{Sized, bit_from};
 ghost use Rattle.layers.specs.King.{king, king_size};
 ghost use Rattle.layers.specs.Views.{bits_of};
 ghost use Rattle.layers.specs.Agreement.{king_bounded, king_agreement, king_validity};
 
-use crate::layer::Layer;
+use crate::layer::{Instance, Layer};
 use crate::phase::{Phase, phase_size};
-use crate::words::bit_from;
+use crate::table::fill;
 
-// The bits that the sender gives to all.
-fn first_bits(n: usize, marks: u16, sender: usize, bit: bool, words: &[u8]) -> [bool; 16]
-    requires { n ≤ 16 }
-    ensures { (i : ℕ) → i < n → bits_of result i ≡ bit_from marks sender bit words.now i }
+// The replicas' bits after the sender gave its own, and after f + 1 phases.
+fn last_bits(instance: &Instance<'_>) -> [bool; 16]
+    ensures { let g = instance.now in (i : ℕ) → i < g.n → bits_of result i ≡ king g.n g.f g.marks g.sender g.bit g.words.now i }
 {
-    let mut bits = [false; 16];
-    for i in 0..n {
-        bits[i] = bit_from(marks, sender, bit, words, i);
-    }
-    bits
-}
-
-// The replicas' bits after f + 1 phases.
-fn last_bits(n: usize, f: usize, marks: u16, sender: usize, bit: bool, words: &[u8]) -> [bool; 16]
-    requires { Sized n f }
-    ensures { (i : ℕ) → i < n → bits_of result i ≡ king n f marks sender bit words.now i }
-{
-    let mut bits = first_bits(n, marks, sender, bit, words);
-    for king in 0..f + 1 {
-        bits = Phase::new(n, f, marks, words, king).run(&bits[0..n]);
+    let mut bits = fill(
+        instance.n,
+        false,
+        |i| instance.bit_from(instance.sender, instance.bit, i),
+    );
+    for king in 0..instance.f + 1 {
+        bits = Phase::new(instance, king).run(&bits);
     }
     bits
 }
@@ -36,15 +26,13 @@ fn last_bits(n: usize, f: usize, marks: u16, sender: usize, bit: bool, words: &[
 // A word with the bits of the list.
 fn gather(bits: &[bool]) -> u16
     requires { length bits.now ≤ 16 }
-    ensures { (i : ℕ) → i < length bits.now → is_set result i ≡ bits_of bits.now i }
+    ensures { (i : ℕ) → is_set result i ≡ bits_of bits.now i }
 {
     let mut word: u16 = 0;
-    let mut j: usize = 0;
-    for b in bits {
+    for (j, b) in bits.iter().enumerate() {
         if *b {
             word |= 1 << j;
         }
-        j += 1;
     }
     word
 }
@@ -68,16 +56,8 @@ impl Layer for PhaseKing {
         n + (f + 1) * phase_size(n)
     }
 
-    fn deliver(
-        &self,
-        n: usize,
-        f: usize,
-        marks: u16,
-        sender: usize,
-        bit: bool,
-        words: &[u8],
-    ) -> u16 {
-        let bits = last_bits(n, f, marks, sender, bit, words);
-        gather(&bits[0..n])
+    fn deliver(&self, instance: &Instance<'_>) -> u16 {
+        let bits = last_bits(instance);
+        gather(&bits[..instance.n])
     }
 }

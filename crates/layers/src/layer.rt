@@ -2,6 +2,19 @@ ghost use Rattle.std.specs.Prelude.{◌≡◌, ℕ, ◌<◌, ◌≤◌, Bool, Li
 ghost use Rattle.quorum.specs.Counting.{bit as is_set};
 ghost use Rattle.layers.specs.Layers.{Sized, Sound, FewFaulty, Agreed, AllGet};
 
+// One bit to be brought from its sender to all, and the words of the faulty about it.
+#[derive(Clone, Copy)]
+pub struct Instance<'a> {
+    pub n: usize,
+    pub f: usize,
+    pub marks: u16,
+    pub sender: usize,
+    pub bit: bool,
+    pub words: &'a [u8],
+    ghost sized: { Sized n f },
+    ghost sender_lt_n: { sender < n },
+}
+
 // A protocol that brings one sender's bit to every sound replica, the same to all.
 pub trait Layer {
     // the bytes of words that an instance has, from n and f
@@ -15,10 +28,8 @@ pub trait Layer {
         ensures { result ≡ size self.now n f };
 
     // Bit i of the answer is what the sound replica i gets.
-    fn deliver(&self, n: usize, f: usize, marks: u16, sender: usize, bit: bool, words: &[u8]) -> u16
-        requires sized { Sized n f }
-        requires sender_lt_n { sender < n }
-        ensures { (i : ℕ) → i < n → Sound marks i → is_set result i ≡ delivered self.now n f marks sender bit words.now i };
+    fn deliver(&self, instance: &Instance<'_>) -> u16
+        ensures { let g = instance.now in (i : ℕ) → i < g.n → Sound g.marks i → is_set result i ≡ delivered self.now g.n g.f g.marks g.sender g.bit g.words.now i };
 
     ghost bounded: { (l : Self) (n f : ℕ) → Sized n f → size l n f ≤ 65536 };
 

@@ -7,4 +7,5 @@ pub mod layer;
 mod phase;
 mod rounds;
 mod said;
+mod table;
 mod words;

@@ -1,5 +1,8 @@
-ghost use Rattle.std.specs.Prelude.{◌≡◌, ◌+◌, ◌*◌, ◌<◌, ◌≤◌};
+ghost use Rattle.std.specs.Prelude.{◌≡◌, ◌+◌, ◌*◌, ◌≤◌};
 ghost use Rattle.layers.specs.King.{phase_size};
+ghost use Rattle.layers.specs.Views.{given};
+
+use crate::layer::Instance;
 
 // The bytes of words that a phase has: n² votes, n² proposals and n bytes of the king.
 pub fn phase_size(n: usize) -> usize
@@ -12,15 +15,25 @@ pub fn phase_size(n: usize) -> usize
 // What the replicas see of a phase; its words start at `start`, far below where a sum could wrap.
 #[derive(Drop)]
 pub struct Phase<'a> {
-    pub n: usize,
-    pub f: usize,
-    pub marks: u16,
-    pub words: &'a [u8],
+    pub instance: Instance<'a>,
     pub king: usize,
     pub start: usize,
-    ghost small: { n ≤ 16 },
-    ghost few: { 3 * f < n },
-    ghost turn: { king ≤ f },
-    ghost starts: { start ≡ n + king * phase_size n },
+    ghost turn: { king ≤ instance.f },
+    ghost starts: { start ≡ instance.n + king * phase_size instance.n },
     ghost low: { start ≤ 65024 },
+}
+
+impl<'a> Phase<'a> {
+    // The phase of a king.
+    pub fn new(instance: &Instance<'a>, king: usize) -> Phase<'a>
+        requires { king ≤ instance.now.f }
+        ensures given { given result.instance ≡ given instance.now }
+        ensures king { result.king ≡ king }
+    {
+        Phase {
+            instance: *instance,
+            king,
+            start: instance.n + king * phase_size(instance.n),
+        }
+    }
 }

@@ -1,6 +1,8 @@
 // What replicas say to one another, and how it is counted.
 ghost use Rattle.std.specs.Prelude.{◌≡◌, ◌+◌, ◌<◌, true, false, if◌then◌else◌};
-ghost use Rattle.layers.specs.King.{says, aloud, said, enough, takes};
+ghost use Rattle.layers.specs.declared.said.Said.{Said};
+ghost use Rattle.layers.specs.declared.said.Said.TheVariants.{Silent};
+ghost use Rattle.layers.specs.King.{says, aloud as bit_aloud, said, enough, takes};
 ghost use Rattle.layers.specs.Views.{counted};
 
 // Silent stands first: it is what an empty table holds.
@@ -25,50 +27,82 @@ pub struct Taken {
     pub firm: bool,
 }
 
-// What a byte of votes or proposals says.
-pub fn said_by(byte: u8) -> Said
-    ensures { result ≡ said byte }
-{
-    match byte {
-        1 => Said::Yes,
-        0 => Said::No,
-        _ => Said::Silent,
-    }
+// What a replica has and says to all in a round.
+pub trait Voice: Copy {
+    // what it says
+    ghost aloud: { Self → Said };
+
+    // what a table reads as past its end
+    ghost absent: { Self };
+
+    fn say(self) -> Said
+        ensures { result ≡ aloud self };
 }
 
 // A bit, as a vote says it.
-pub fn vote(bit: bool) -> Said
-    ensures { result ≡ aloud bit }
-{
-    if bit { Said::Yes } else { Said::No }
+impl Voice for bool {
+    ghost aloud = { bit_aloud };
+
+    ghost absent = { false };
+
+    fn say(self) -> Said {
+        if self { Said::Yes } else { Said::No }
+    }
 }
 
-// The bit of a replica that had `own` and then heard enough of s.
-pub fn take(s: Said, own: bool) -> bool
-    ensures { result ≡ takes s own }
-{
-    match s {
-        Said::Yes => true,
-        Said::No => false,
-        Said::Silent => own,
+// A proposal, said as it is.
+impl Voice for Said {
+    ghost aloud = { λ s. s };
+
+    ghost absent = { Silent };
+
+    fn say(self) -> Said {
+        self
+    }
+}
+
+// What a byte of votes or proposals says.
+impl From<u8> for Said {
+    ghost from_gives = { λ byte s. s ≡ said byte };
+
+    fn from(byte: u8) -> Said {
+        match byte {
+            1 => Said::Yes,
+            0 => Said::No,
+            _ => Said::Silent,
+        }
+    }
+}
+
+impl Said {
+    // The bit of a replica that had `own` and then heard enough of this.
+    pub fn or(self, own: bool) -> bool
+        ensures { result ≡ takes self own }
+    {
+        match self {
+            Said::Yes => true,
+            Said::No => false,
+            Said::Silent => own,
+        }
     }
 }
 
 impl Tally {
     // The tally with one more said.
     pub fn with(self, s: Said) -> Tally
-        requires { (self.yes < 16) × (self.no < 16) }
+        requires yes { self.yes < 16 }
+        requires no { self.no < 16 }
         ensures yes { result.yes ≡ self.yes + (if says true s then 1 else 0) }
         ensures no { result.no ≡ self.no + (if says false s then 1 else 0) }
     {
         match s {
             Said::Yes => Tally {
                 yes: self.yes + 1,
-                no: self.no,
+                ..self
             },
             Said::No => Tally {
-                yes: self.yes,
                 no: self.no + 1,
+                ..self
             },
             Said::Silent => self,
         }

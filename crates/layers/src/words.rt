@@ -2,6 +2,7 @@
 ghost use Rattle.std.specs.Prelude.{◌≡◌};
 ghost use Rattle.layers.specs.Layers.{byte_at, bit_from};
 
+use crate::layer::Instance;
 use quorum::is_set;
 
 // Neither yes nor no: an absent byte reads as this.
@@ -11,20 +12,18 @@ const NEITHER: u8 = 2;
 pub fn byte_at(words: &[u8], place: usize) -> u8
     ensures { result ≡ byte_at words.now place }
 {
-    if place < words.len() {
-        words[place]
-    } else {
-        NEITHER
-    }
+    words.get(place).copied().unwrap_or(NEITHER)
 }
 
-// The bit that a replica gives: its own, or where it is faulty its word, yes only at 1.
-pub fn bit_from(marks: u16, giver: usize, own: bool, words: &[u8], place: usize) -> bool
-    ensures { result ≡ bit_from marks giver own words.now place }
-{
-    if is_set(marks, giver) {
-        byte_at(words, place) == 1
-    } else {
-        own
+impl Instance<'_> {
+    // The bit that a replica gives: its own, or where it is faulty its word, yes only at 1.
+    pub(crate) fn bit_from(&self, giver: usize, own: bool, place: usize) -> bool
+        ensures { result ≡ bit_from self.now.marks giver own self.now.words.now place }
+    {
+        if is_set(self.marks, giver) {
+            byte_at(self.words, place) == 1
+        } else {
+            own
+        }
     }
 }

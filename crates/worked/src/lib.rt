@@ -8,7 +8,7 @@ ghost use Rattle.worked.specs.Examples.{Worked};
 
 use applications::wheel::{Count, Wheel};
 use layers::king::PhaseKing;
-use layers::layer::Layer;
+use layers::layer::{Instance, Layer};
 use selections::Selection;
 use selections::mid_value::MidValue;
 use values::entries::majority;
@@ -57,8 +57,22 @@ pub fn examples(a: Count, b: Count) -> Answers
         step_held: Wheel
             .step(&Count { value: 2147483647 }, &Count { value: 1 })
             .value,
-        king_two_faced: PhaseKing.deliver(4, 1, 8, 3, false, &[1, 0, 1]),
-        king_contradicted: PhaseKing.deliver(4, 1, 8, 0, false, &[1; 76]),
+        king_two_faced: PhaseKing.deliver(&Instance {
+            n: 4,
+            f: 1,
+            marks: 8,
+            sender: 3,
+            bit: false,
+            words: &[1, 0, 1],
+        }),
+        king_contradicted: PhaseKing.deliver(&Instance {
+            n: 4,
+            f: 1,
+            marks: 8,
+            sender: 0,
+            bit: false,
+            words: &[1; 76],
+        }),
     }
 }
 

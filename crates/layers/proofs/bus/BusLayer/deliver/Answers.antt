@@ -1,6 +1,6 @@
-use Rattle.std.proofs.Common.{◌∙◌, arith, rules}
-use Rattle.layers.proofs.Masks.{all_set}
+use Rattle.std.proofs.Common.{ℕ, eqb, ap, ◌∙◌, arith}
+use Rattle.std.proofs.lemmas.Nat.Bits.{bit_at_ones}
 use Rattle.layers.proofs.bus.BusLayer.deliver.Goals as goal
 
-pub returns-then-bit_from : goal.returns-then-bit_from
-returns-then-bit_from c = record { gets = λ i h s. all_set i (omega arith) ∙ c.if-bit_from.ensures; none = search rules; all = search rules }
+pub returns-then-bit_from-clause-gets : goal.returns-then-bit_from-clause-gets
+returns-then-bit_from-clause-gets c i h s = ap (λ (d : ℕ). eqb d 1) (bit_at_ones 16 i (omega arith)) ∙ c.if-bit_from.ensures

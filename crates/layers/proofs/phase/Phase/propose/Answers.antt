@@ -6,6 +6,7 @@ use Rattle.layers.proofs.phase.Phase.propose.Goals as goal
 
 pub returns : goal.returns
 returns c =
+    let g = c.args.self.now.instance in
     c.enough.ensures
-    ∙ ap (enough (c.args.self.now.n - c.args.self.now.f)) (counted_is c.tally_votes.result c.args.self.now.n _ c.tally_votes.ensures)
-    ∙ ap (λ (at : ℕ). enough (c.args.self.now.n - c.args.self.now.f) (tally (given c.args.self.now) at (λ j. aloud (bits_of c.args.bits.now j)) c.args.i)) c.args.self.now.starts
+    ∙ ap (enough (g.n - g.f)) (counted_is c.tally-tally.result g.n _ c.tally-tally.ensures)
+    ∙ ap (λ (at : ℕ). enough (g.n - g.f) (tally (given g) at (λ j. aloud (bits_of c.args.bits.now j)) c.args.i)) c.args.self.now.starts

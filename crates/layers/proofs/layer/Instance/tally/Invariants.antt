@@ -1,0 +1,8 @@
+use Rattle.std.proofs.Common.{slice_index_or}
+use Rattle.layers.specs.King.{heard}
+use Rattle.layers.specs.Views.{given, Counted}
+use Rattle.layers.proofs.layer.Instance.tally.Given as goal
+
+-- the tally is of the places before j
+abbrev pub invariant-loop-j : goal.invariant-loop-j
+invariant-loop-j g l = Counted l.tally l.j (heard (given l.self) l.at (λ j. g.V.Voice.aloud (slice_index_or l.table j g.V.Voice.absent)) l.i)

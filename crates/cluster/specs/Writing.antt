@@ -1,14 +1,23 @@
 -- Tables that are written place by place.
-use Rattle.std.specs.Prelude.{◌≡◌, ℕ, ◌+◌, ◌-◌, ◌*◌, ◌/◌, ◌%◌, ◌<◌, ◌≤◌, Bool, false, cond, not, ◌&&◌, ◌||◌, List, take, drop, nat_le, slice_index, slice_index_or, Option, Some, None}
+use Rattle.std.specs.Prelude.{◌≡◌, ℕ, ◌+◌, ◌-◌, ◌*◌, ◌/◌, ◌%◌, ◌^◌, ◌<◌, ◌≤◌, Bool, false, cond, not, ◌&&◌, ◌||◌, List, take, drop, nat_le, slice_index, slice_index_or, Option, Some, None}
 use Rattle.quorum.specs.Counting.{bit, count}
 use Rattle.values.specs.Entries.{present, entry_at, SameEntry, matches}
 use Rattle.values.specs.Majority.{majority}
 use Rattle.protocol.specs.Setup.{Rule}
-use Rattle.protocol.specs.Tables.{table, value_at, MaskOf}
+use Rattle.protocol.specs.Tables.{table, value_at, MaskOf, Written}
 
 -- the place is a faulty replica's, where each has w places
 abbrev pub faulty_at : ℕ → ℕ → ℕ → Bool
 faulty_at marks w p = bit marks (p / w)
+
+-- Each place that is not skipped holds what is wanted of it, and any other its very value.
+pub record Wrote {X : Type 0} (n : ℕ) (skip : ℕ → Bool) (wants : ℕ → X → Type 0) (before after : List X) : Type 0 where
+  pub written : Written n skip wants before after
+
+-- Bit j of the mask is what was answered of j, and no bit from n on is set.
+pub record Masked (n : ℕ) (answers : ℕ → Bool → Type 0) (mask : ℕ) : Type 0 where
+  pub below : mask < 2 ^ n
+  pub bits : (j : ℕ) → j < n → answers j (bit mask j)
 
 -- own: the entry
 abbrev pub Owns : {R : Type 0} → List (Option R) → ℕ → Option R → Type 0
@@ -55,10 +64,6 @@ accepts_own alike n f (Some x) heard = nat_le (n - f) (matches alike x n heard)
 -- accept: whether own is accepted
 abbrev pub Accepts : {R : Type 0} → (R → R → Bool) → ℕ → ℕ → ℕ → List (Option R) → List (Option R) → ℕ → Bool → Type 0
 Accepts alike n f sensors own heard p v = v ≡ accepts_own alike n f (entry_at own p) (heard_row n sensors heard (p / sensors) (p % sensors))
-
--- a row of what was heard lies within the table
-abbrev pub RowFits : ℕ → ℕ → ℕ → ℕ → ℕ → Type 0
-RowFits n sensors i k length = (n ≤ 16) × (sensors ≤ 4) × (i < n) × (k < sensors) × (length ≡ n * n * sensors)
 
 -- what a layer delivers: from the sender, its bit, the words and the receiver
 abbrev pub Delivers : Type 0

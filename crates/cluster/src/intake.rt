@@ -7,24 +7,25 @@ ghost use Rattle.protocol.specs.Tables.{Written};
 ghost use Rattle.cluster.specs.Writing.{faulty_at, idle_at, Owns, Runs, stepped_by};
 ghost use Rattle.values.specs.Entries.{SameEntry};
 
-use crate::moves::to_taken_in;
-use crate::places::is_sound;
-use crate::{Refused, Rest, TakenIn};
+use crate::stages::{Rest, TakenIn};
+use crate::writing::write_sound;
+use crate::{Cluster, Refused};
 use layers::layer::Layer;
 use protocol::never_part;
-use questions::asking::stage_refusal;
+use questions::{Parameters, Sizes};
+use values::entries::entry_at;
 use values::{Application, Entry, Value};
 
 // Writes own at the places of the sound replicas.
-fn write_own<R: Value>(sensors: usize, marks: u16, entries: &[Entry<R>], own: &mut [Entry<R>])
-    requires { (1 ≤ sensors) × (length own.old ≡ length entries.now) }
-    ensures { Written (length own.old) (faulty_at marks sensors) (Owns entries.now) own.old own.new }
+fn write_own<R: Value>(parameters: Parameters, entries: &[Entry<R>], own: &mut [Entry<R>])
+    ensures { Written (length own.old) (faulty_at parameters.marks parameters.sensors) (Owns entries.now) own.old own.new }
 {
-    for p in 0..own.len() {
-        if is_sound(marks, p / sensors) {
-            own[p] = entries[p];
-        }
-    }
+    write_sound(
+        parameters,
+        parameters.sensors,
+        own,
+        |p| entry_at(entries, p),
+    );
 }
 
 // What the application makes of a state by an entry, missing where the entry is.
@@ -37,21 +38,21 @@ fn run_of<A: Application>(app: &A, state: &A::State, entry: &Entry<A::Reading>) 
     }
 }
 
-// Writes run at the places of the sound replicas whose entry is present.
+// Writes run at the places of the sound replicas whose entry is present; no other place is written, so the loop is its own.
 fn write_run<A: Application>(
+    parameters: Parameters,
     app: &A,
-    sensors: usize,
-    marks: u16,
     state: &[A::State],
     entries: &[Entry<A::Reading>],
     run: &mut [A::State],
 )
-    requires { (1 ≤ sensors) × ((length run.old ≡ length state.now * sensors) × (length run.old ≡ length entries.now)) }
-    ensures { Written (length run.old) (idle_at marks sensors entries.now) (Runs A.State.Value.means (A.Application.stepped app.now) sensors state.now entries.now) run.old run.new }
+    requires states { length run.old ≡ length state.now * parameters.sensors }
+    requires entries { length run.old ≡ length entries.now }
+    ensures { Written (length run.old) (idle_at parameters.marks parameters.sensors entries.now) (Runs A.State.Value.means (A.Application.stepped app.now) parameters.sensors state.now entries.now) run.old run.new }
 {
     for p in 0..run.len() {
-        let i = p / sensors;
-        if is_sound(marks, i) {
+        let i = p / parameters.sensors;
+        if parameters.is_sound(i) {
             if let Some(next) = run_of(app, &state[i], &entries[p]) {
                 run[p] = next;
             }
@@ -59,7 +60,7 @@ fn write_run<A: Application>(
     }
 }
 
-impl<A: Application, L: Layer> Rest<A, L> {
+impl<A: Application, L: Layer> Cluster<A, L, Rest> {
     // Takes the sensors' entries in: the entry of replica i and sensor k stands at place i * sensors + k.
     pub fn intake(
         self,
@@ -73,42 +74,26 @@ impl<A: Application, L: Layer> Rest<A, L> {
         heard: &[Entry<A::Reading>],
         candidates: &[u8],
         chosen: &[u8],
-    ) -> Result<TakenIn<A, L>, Refused<Rest<A, L>>>
+    ) -> Result<Cluster<A, L, TakenIn>, Refused<Cluster<A, L, Rest>>>
         ensures { IntakeAnswers (semantics A.Reading.Value A.State.Value A.Command.Value A.Application L.Layer) self entries.now
             (lent state.now own.old agreed.now run.old accept.now yes.now heard.now candidates.now chosen.now)
             (lent state.now own.new agreed.now run.new accept.now yes.now heard.now candidates.now chosen.now)
             result }
     {
         never_part::<A, L>();
-        let fit = self.parameters.tables_fit(
-            state.len(),
-            own.len(),
-            agreed.len(),
-            run.len(),
-            accept.len(),
-            yes.len(),
-            heard.len(),
-            candidates.len(),
-            chosen.len(),
+        let parameters = self.parameters;
+        let sizes = Sizes::of(
+            state, own, agreed, run, accept, yes, heard, candidates, chosen,
         );
-        if let Some(refusal) = stage_refusal(
-            fit,
-            entries.len() == self.parameters.n * self.parameters.sensors,
-        ) {
+        let input = entries.len() == parameters.n * parameters.sensors;
+        if let Err(refusal) = parameters.ask_stage(sizes, input) {
             return Err(Refused {
                 cluster: self,
                 refusal,
             });
         }
-        write_own(self.parameters.sensors, self.parameters.marks, entries, own);
-        write_run(
-            &self.app,
-            self.parameters.sensors,
-            self.parameters.marks,
-            state,
-            entries,
-            run,
-        );
-        Ok(to_taken_in(self))
+        write_own(parameters, entries, own);
+        write_run(parameters, &self.app, state, entries, run);
+        Ok(self.at())
     }
 }

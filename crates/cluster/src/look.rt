@@ -3,14 +3,14 @@ ghost use Rattle.protocol.specs.Setup.{lent};
 ghost use Rattle.protocol.specs.Clusters.{semantics};
 ghost use Rattle.cluster.specs.Answers.{LookAnswers};
 
-use crate::Rest;
-use crate::places::value_at;
+use crate::Cluster;
+use crate::stages::Rest;
 use layers::layer::Layer;
 use protocol::never_part;
-use questions::Refusal;
+use questions::{Refusal, Sizes};
 use values::{Application, Entry, Value};
 
-impl<A: Application, L: Layer> Rest<A, L> {
+impl<A: Application, L: Layer> Cluster<A, L, Rest> {
     // Tells the state of replica i.
     pub fn look(
         &self,
@@ -30,20 +30,10 @@ impl<A: Application, L: Layer> Rest<A, L> {
             result }
     {
         never_part::<A, L>();
-        let fit = self.parameters.tables_fit(
-            state.len(),
-            own.len(),
-            agreed.len(),
-            run.len(),
-            accept.len(),
-            yes.len(),
-            heard.len(),
-            candidates.len(),
-            chosen.len(),
+        let sizes = Sizes::of(
+            state, own, agreed, run, accept, yes, heard, candidates, chosen,
         );
-        match self.parameters.look_refusal(fit, i) {
-            Some(refusal) => Err(refusal),
-            None => Ok(value_at(state, i)),
-        }
+        self.parameters.ask_look(sizes, i)?;
+        Ok(state[i])
     }
 }

@@ -1,16 +1,19 @@
 // Making: the questions, and the starting state in all places.
-ghost use Rattle.std.specs.Prelude.{◌≡◌, ℕ, ◌*◌, ◌<◌, length, slice_index_or};
+ghost use Rattle.std.specs.Prelude.{◌≡◌, ℕ, ◌<◌, length, slice_index_or};
 ghost use Rattle.protocol.specs.Clusters.{semantics};
 ghost use Rattle.protocol.specs.Setup.{lent};
-ghost use Rattle.cluster.specs.Answers.{MakeAnswers};
+ghost use Rattle.questions.specs.Lengths.{sizes_of};
+ghost use Rattle.cluster.specs.Answers.{MakingAnswer, MakeAnswers};
 
-use crate::{Rest, Unmade};
+use crate::stages::Rest;
+use crate::{Cluster, Unmade};
 use layers::layer::Layer;
 use protocol::never_part;
-use questions::{Parameters, Refusal};
+use questions::{Parameters, Refusal, Sizes};
+use std::marker::PhantomData;
 use values::{Application, Entry, Value};
 
-// Writes the state to every place.
+// Writes the state to every place; the slice's own `fill` asks that a clone cannot fail, which no bound here says.
 fn write_start<S: Value>(start: S, state: &mut [S])
     ensures { (i : ℕ) → i < length state.old → (d : S) → slice_index_or state.new i d ≡ start }
 {
@@ -19,7 +22,22 @@ fn write_start<S: Value>(start: S, state: &mut [S])
     }
 }
 
-impl<A: Application, L: Layer> Rest<A, L> {
+// The questions of making: the numbers, and then the tables.
+fn ask_making(
+    n: usize,
+    f: usize,
+    sensors: usize,
+    marks: u16,
+    sizes: Sizes,
+) -> Result<Parameters, Refusal>
+    ensures { MakingAnswer n f sensors marks (sizes_of sizes) result }
+{
+    let parameters = Parameters::new(n, f, sensors, marks)?;
+    parameters.ask_tables(sizes)?;
+    Ok(parameters)
+}
+
+impl<A: Application, L: Layer> Cluster<A, L, Rest> {
     // Makes a cluster at rest; the other tables are only asked for their sizes.
     pub fn make(
         app: A,
@@ -38,46 +56,31 @@ impl<A: Application, L: Layer> Rest<A, L> {
         heard: &[Entry<A::Reading>],
         candidates: &[u8],
         chosen: &[u8],
-    ) -> Result<Rest<A, L>, Unmade<A, L>>
+    ) -> Result<Cluster<A, L, Rest>, Unmade<A, L>>
         ensures { MakeAnswers (semantics A.Reading.Value A.State.Value A.Command.Value A.Application L.Layer) record { n = n; f = f; sensors = sensors; marks = marks; app = app; layer = layer } start
             (lent state.old own.now agreed.now run.now accept.now yes.now heard.now candidates.now chosen.now)
             (lent state.new own.now agreed.now run.now accept.now yes.now heard.now candidates.now chosen.now)
             result }
     {
         never_part::<A, L>();
-        let parameters = match Parameters::new(n, f, sensors, marks) {
-            Ok(parameters) => parameters,
-            Err(refusal) => {
-                return Err(Unmade {
+        let sizes = Sizes::of(
+            state, own, agreed, run, accept, yes, heard, candidates, chosen,
+        );
+        match ask_making(n, f, sensors, marks, sizes) {
+            Ok(parameters) => {
+                write_start(start, state);
+                Ok(Cluster {
+                    parameters,
                     app,
                     layer,
-                    refusal,
-                });
+                    stage: PhantomData,
+                })
             }
-        };
-        let fit = parameters.tables_fit(
-            state.len(),
-            own.len(),
-            agreed.len(),
-            run.len(),
-            accept.len(),
-            yes.len(),
-            heard.len(),
-            candidates.len(),
-            chosen.len(),
-        );
-        if !fit {
-            return Err(Unmade {
+            Err(refusal) => Err(Unmade {
                 app,
                 layer,
-                refusal: Refusal::TablesSize,
-            });
+                refusal,
+            }),
         }
-        write_start(start, state);
-        Ok(Rest {
-            parameters,
-            app,
-            layer,
-        })
     }
 }

@@ -1,77 +1,25 @@
-// The moves from one stage to the next, which no caller outside can make.
+// The move from one stage to another, which no caller outside can make.
 ghost use Rattle.std.specs.Prelude.{◌≡◌};
-ghost use Rattle.cluster.specs.Answers.{kept, of_rest, of_taken_in, of_filtered, of_agreed, of_chosen};
+ghost use Rattle.cluster.specs.Answers.{kept_by};
 
-use crate::{Agreed, Chosen, Filtered, Rest, TakenIn};
-use questions::Parameters;
+use crate::Cluster;
+use std::marker::PhantomData;
 
-pub(crate) fn to_taken_in<A, L>(cluster: Rest<A, L>) -> TakenIn<A, L>
-    ensures { of_taken_in result ≡ of_rest cluster }
-{
-    let Rest {
-        parameters,
-        app,
-        layer,
-    } = cluster;
-    TakenIn {
-        parameters,
-        app,
-        layer,
-    }
-}
-
-pub(crate) fn to_filtered<A, L>(cluster: TakenIn<A, L>) -> Filtered<A, L>
-    ensures { of_filtered result ≡ of_taken_in cluster }
-{
-    let TakenIn {
-        parameters,
-        app,
-        layer,
-    } = cluster;
-    Filtered {
-        parameters,
-        app,
-        layer,
-    }
-}
-
-pub(crate) fn to_agreed<A, L>(cluster: Filtered<A, L>) -> Agreed<A, L>
-    ensures { of_agreed result ≡ of_filtered cluster }
-{
-    let Filtered {
-        parameters,
-        app,
-        layer,
-    } = cluster;
-    Agreed {
-        parameters,
-        app,
-        layer,
-    }
-}
-
-pub(crate) fn to_chosen<A, L>(cluster: Agreed<A, L>) -> Chosen<A, L>
-    ensures { of_chosen result ≡ of_agreed cluster }
-{
-    let Agreed {
-        parameters,
-        app,
-        layer,
-    } = cluster;
-    Chosen {
-        parameters,
-        app,
-        layer,
-    }
-}
-
-// At rest again, with what is kept for life.
-pub(crate) fn at_rest<A, L>(parameters: Parameters, app: A, layer: L) -> Rest<A, L>
-    ensures { of_rest result ≡ kept parameters app layer }
-{
-    Rest {
-        parameters,
-        app,
-        layer,
+impl<A, L, G> Cluster<A, L, G> {
+    pub(crate) fn at<H>(self) -> Cluster<A, L, H>
+        ensures { kept_by result ≡ kept_by self }
+    {
+        let Cluster {
+            parameters,
+            app,
+            layer,
+            stage: _,
+        } = self;
+        Cluster {
+            parameters,
+            app,
+            layer,
+            stage: PhantomData,
+        }
     }
 }

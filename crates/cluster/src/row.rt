@@ -1,79 +1,74 @@
 // A row of what was heard, read by position and not copied.
-ghost use Rattle.std.specs.Prelude.{◌≡◌, ◌<◌, length};
-ghost use Rattle.values.specs.Entries.{matches as matches_in};
+ghost use Rattle.std.specs.Prelude.{◌≡◌, ◌*◌, ◌/◌, ◌%◌, ◌<◌, length};
 ghost use Rattle.quorum.specs.Counting.{bit};
-ghost use Rattle.values.specs.Entries.{SameEntry};
-ghost use Rattle.values.specs.Majority.{majority as majority_of};
-ghost use Rattle.cluster.specs.Writing.{RowFits, heard_row, heeded};
+ghost use Rattle.cluster.specs.Writing.{heard_row, heeded};
 
-use crate::places::{entry_at, heard_place};
+use crate::places::heard_place;
+use questions::Parameters;
 use quorum::is_set;
-use values::entries::{Entries, majority, matches};
+use values::entries::{Entries, entry_at};
 use values::{Entry, Value};
 
 // What replica i heard about sensor k, by the sender.
 #[derive(Drop)]
-struct Row<'a, T> {
-    heard: &'a [Entry<T>],
-    n: usize,
-    sensors: usize,
-    i: usize,
-    k: usize,
-    ghost within: { RowFits n sensors i k (length heard.now) },
+pub(crate) struct Row<'a, T> {
+    pub parameters: Parameters,
+    pub i: usize,
+    pub k: usize,
+    pub heard: &'a [Entry<T>],
+    ghost replica: { i < parameters.n },
+    ghost sensor: { k < parameters.sensors },
+    ghost long: { length heard.now ≡ parameters.n * parameters.n * parameters.sensors },
+}
+
+impl<'a, T: Value> Row<'a, T> {
+    // What the replica of a place, in a table over replicas and sensors, heard about its sensor.
+    pub fn of_place(parameters: Parameters, p: usize, heard: &'a [Entry<T>]) -> Row<'a, T>
+        requires place { p < parameters.n * parameters.sensors }
+        requires heard_len { length heard.now ≡ parameters.n * parameters.n * parameters.sensors }
+        ensures row { result.parameters ≡ parameters }
+        ensures replica { result.i ≡ p / parameters.sensors }
+        ensures sensor { result.k ≡ p % parameters.sensors }
+        ensures table { result.heard.now ≡ heard.now }
+    {
+        Row {
+            parameters,
+            i: p / parameters.sensors,
+            k: p % parameters.sensors,
+            heard,
+        }
+    }
 }
 
 impl<'a, T: Value> Entries for Row<'a, T> {
     type Item = T;
 
-    ghost size = { λ s. s.n };
+    ghost size = { λ s. s.parameters.n };
 
-    ghost entry = { λ s. heard_row s.n s.sensors s.heard.now s.i s.k };
+    ghost entry = { λ s. heard_row s.parameters.n s.parameters.sensors s.heard.now s.i s.k };
 
     fn len(&self) -> usize {
-        self.n
+        self.parameters.n
     }
 
     fn at(&self, j: usize) -> Entry<T> {
-        let p = heard_place(self.n, self.sensors, self.i, j, self.k);
-        entry_at(self.heard, p)
+        entry_at(self.heard, heard_place(self.parameters, self.i, j, self.k))
     }
-}
-
-// How many replicas told i the same about sensor k as x.
-pub(crate) fn heard_matches<T: Value>(
-    n: usize,
-    sensors: usize,
-    i: usize,
-    k: usize,
-    heard: &[Entry<T>],
-    x: &T,
-) -> usize
-    requires { RowFits n sensors i k (length heard.now) }
-    ensures { result ≡ matches_in T.Value.alike x.now n (heard_row n sensors heard.now i k) }
-{
-    let row = Row {
-        heard,
-        n,
-        sensors,
-        i,
-        k,
-    };
-    matches(&row, x)
 }
 
 // The same, from the senders of a mask only.
 #[derive(Drop)]
-struct Heeded<'a, T> {
-    row: Row<'a, T>,
-    mask: u16,
+pub(crate) struct Heeded<'a, T> {
+    pub row: &'a Row<'a, T>,
+    pub mask: u16,
 }
 
 impl<'a, T: Value> Entries for Heeded<'a, T> {
     type Item = T;
 
-    ghost size = { λ s. s.row.n };
+    ghost size = { λ s. s.row.now.parameters.n };
 
-    ghost entry = { λ s. heeded (bit s.mask) (heard_row s.row.n s.row.sensors s.row.heard.now s.row.i s.row.k) };
+    ghost entry = { λ s. heeded (bit s.mask) (heard_row s.row.now.parameters.n s.row.now.parameters.sensors s.row.now.heard.now s.row.now.i s.row.now.k) };
 
     fn len(&self) -> usize {
         self.row.len()
@@ -86,26 +81,4 @@ impl<'a, T: Value> Entries for Heeded<'a, T> {
             None
         }
     }
-}
-
-// The majority of what replica i heard about sensor k from the senders of a mask.
-pub(crate) fn heard_majority<T: Value>(
-    n: usize,
-    sensors: usize,
-    i: usize,
-    k: usize,
-    mask: u16,
-    heard: &[Entry<T>],
-) -> Entry<T>
-    requires { RowFits n sensors i k (length heard.now) }
-    ensures { SameEntry T.Value.means result (majority_of T.Value.alike n (heeded (bit mask) (heard_row n sensors heard.now i k))) }
-{
-    let row = Row {
-        heard,
-        n,
-        sensors,
-        i,
-        k,
-    };
-    majority(&Heeded { row, mask })
 }

@@ -7,68 +7,64 @@ ghost use Rattle.cluster.specs.Answers.{SelectAnswers};
 ghost use Rattle.protocol.specs.Tables.{Written};
 ghost use Rattle.cluster.specs.Writing.{agreed_row, Chooses};
 
-use crate::moves::to_chosen;
-use crate::places::is_sound;
-use crate::{Agreed, Chosen, Refused};
+use crate::stages::{Agreed, Chosen};
+use crate::writing::write_sound;
+use crate::{Cluster, Refused};
 use layers::layer::Layer;
 use protocol::never_part;
-use questions::asking::stage_refusal;
+use questions::{Parameters, Sizes};
 use selections::Selection;
 use values::{Application, Entry, Value};
 
 // Where the row of replica i begins.
-fn row_start(n: usize, sensors: usize, i: usize) -> usize
-    requires { (n ≤ 16) × ((1 ≤ sensors) × ((sensors ≤ 4) × (i < n))) }
-    ensures is { result ≡ i * sensors }
-    ensures within { result + sensors ≤ n * sensors }
+fn row_start(parameters: Parameters, i: usize) -> usize
+    requires { i < parameters.n }
+    ensures is { result ≡ i * parameters.sensors }
+    ensures within { result + parameters.sensors ≤ parameters.n * parameters.sensors }
 {
-    i * sensors
+    i * parameters.sensors
 }
 
 // What replica i agreed on, by the sensor.
-fn row_of<R: Value>(n: usize, sensors: usize, i: usize, agreed: &[Entry<R>]) -> &[Entry<R>]
-    requires { (n ≤ 16) × ((1 ≤ sensors) × ((sensors ≤ 4) × ((i < n) × (length agreed.now ≡ n * sensors)))) }
-    ensures is { result.now ≡ agreed_row sensors agreed.now i }
-    ensures few { length result.now ≡ sensors }
+fn row_of<R: Value>(parameters: Parameters, agreed: &[Entry<R>], i: usize) -> &[Entry<R>]
+    requires replica { i < parameters.n }
+    requires agreed_len { length agreed.now ≡ parameters.n * parameters.sensors }
+    ensures is { result.now ≡ agreed_row parameters.sensors agreed.now i }
+    ensures few { length result.now ≡ parameters.sensors }
 {
-    let first = row_start(n, sensors, i);
-    &agreed[first..first + sensors]
+    let first = row_start(parameters, i);
+    &agreed[first..first + parameters.sensors]
 }
 
 // The selection's answer on what replica i agreed on.
 fn choice_of<R: Value, S: Selection<R>>(
-    n: usize,
-    sensors: usize,
+    parameters: Parameters,
     selection: &S,
-    i: usize,
     agreed: &[Entry<R>],
+    i: usize,
 ) -> u8
-    requires { (n ≤ 16) × ((1 ≤ sensors) × ((sensors ≤ 4) × ((i < n) × (length agreed.now ≡ n * sensors)))) }
-    ensures { result ≡ S.Selection.choice selection.now (agreed_row sensors agreed.now i) }
+    requires replica { i < parameters.n }
+    requires agreed_len { length agreed.now ≡ parameters.n * parameters.sensors }
+    ensures { Chooses (S.Selection.choice selection.now) parameters.sensors agreed.now i result }
 {
-    selection.choose(row_of(n, sensors, i, agreed))
+    selection.choose(row_of(parameters, agreed, i))
 }
 
 // Writes the chosen sensors of the sound replicas.
 fn write_chosen<R: Value, S: Selection<R>>(
-    n: usize,
-    sensors: usize,
-    marks: u16,
+    parameters: Parameters,
     selection: &S,
     agreed: &[Entry<R>],
     chosen: &mut [u8],
 )
-    requires { (n ≤ 16) × ((1 ≤ sensors) × ((sensors ≤ 4) × ((length agreed.now ≡ n * sensors) × (length chosen.old ≡ n)))) }
-    ensures { Written n (bit marks) (Chooses (S.Selection.choice selection.now) sensors agreed.now) chosen.old chosen.new }
+    requires agreed_len { length agreed.now ≡ parameters.n * parameters.sensors }
+    requires chosen_len { length chosen.old ≡ parameters.n }
+    ensures { Written parameters.n (bit parameters.marks) (Chooses (S.Selection.choice selection.now) parameters.sensors agreed.now) chosen.old chosen.new }
 {
-    for i in 0..chosen.len() {
-        if is_sound(marks, i) {
-            chosen[i] = choice_of(n, sensors, selection, i, agreed);
-        }
-    }
+    write_sound(parameters, 1, chosen, |i| choice_of(parameters, selection, agreed, i));
 }
 
-impl<A: Application, L: Layer> Agreed<A, L> {
+impl<A: Application, L: Layer> Cluster<A, L, Agreed> {
     // Chooses among the candidates.
     pub fn select<S: Selection<A::Reading>>(
         self,
@@ -82,38 +78,24 @@ impl<A: Application, L: Layer> Agreed<A, L> {
         heard: &[Entry<A::Reading>],
         candidates: &[u8],
         chosen: &mut [u8],
-    ) -> Result<Chosen<A, L>, Refused<Agreed<A, L>>>
+    ) -> Result<Cluster<A, L, Chosen>, Refused<Cluster<A, L, Agreed>>>
         ensures { SelectAnswers (semantics A.Reading.Value A.State.Value A.Command.Value A.Application L.Layer) self (S.Selection.choice selection.now)
             (lent state.now own.now agreed.now run.now accept.now yes.now heard.now candidates.now chosen.old)
             (lent state.now own.now agreed.now run.now accept.now yes.now heard.now candidates.now chosen.new)
             result }
     {
         never_part::<A, L>();
-        let fit = self.parameters.tables_fit(
-            state.len(),
-            own.len(),
-            agreed.len(),
-            run.len(),
-            accept.len(),
-            yes.len(),
-            heard.len(),
-            candidates.len(),
-            chosen.len(),
+        let parameters = self.parameters;
+        let sizes = Sizes::of(
+            state, own, agreed, run, accept, yes, heard, candidates, chosen,
         );
-        if let Some(refusal) = stage_refusal(fit, true) {
+        if let Err(refusal) = parameters.ask_stage(sizes, true) {
             return Err(Refused {
                 cluster: self,
                 refusal,
             });
         }
-        write_chosen(
-            self.parameters.n,
-            self.parameters.sensors,
-            self.parameters.marks,
-            selection,
-            agreed,
-            chosen,
-        );
-        Ok(to_chosen(self))
+        write_chosen(parameters, selection, agreed, chosen);
+        Ok(self.at())
     }
 }

@@ -1,5 +1,5 @@
 -- From the test on the sizes of tables to each size, and to the verdicts.
-use Rattle.std.proofs.Common.{◌≡◌, ℕ, ◌*◌, ◌<◌, Bool, true, false, not, ◌&&◌, eqb, ltb, List, length, sym, refl, ◌∙◌, ap₂, ltb-true, Option}
+use Rattle.std.proofs.Common.{◌≡◌, ℕ, ◌*◌, ◌<◌, Bool, true, false, not, ◌&&◌, eqb, ltb, List, length, sym, refl, ap, ◌∙◌, ap₂, ltb-true, Option}
 use Rattle.quorum.specs.Counting.{bit}
 use Rattle.std.proofs.lemmas.Bool.{and_parts, eqb-true}
 use Rattle.protocol.specs.Setup.{Config, Tables, Sizes, sizes, intake, filter, agree, select, commit, look, Rule}
@@ -59,6 +59,14 @@ module _ {R S C : Type 0} (g : Config R S C) (z : Sizes) where
   pub verdict-look : (i : ℕ) → verdict g (look z i) ≡ look_verdict (fits g.n g.sensors z) g.n g.marks i
   unfolding verdict tables_fit
   verdict-look i = refl
+
+-- what the questions answered of the tables' sizes is the verdict
+pub stage_told : (v : Verdict) (n sensors : ℕ) (z t : Sizes) (input : Bool) → z ≡ t → v ≡ stage_verdict (fits n sensors z) input → stage_verdict (fits n sensors t) input ≡ v
+stage_told v n sensors z t input e h = ap (λ (s : Sizes). stage_verdict (fits n sensors s) input) (sym e) ∙ sym h
+
+-- what a look's questions answered of the tables' sizes is the verdict
+pub look_told : (v : Verdict) (n sensors : ℕ) (z t : Sizes) (marks i : ℕ) → z ≡ t → v ≡ look_verdict (fits n sensors z) n marks i → look_verdict (fits n sensors t) n marks i ≡ v
+look_told v n sensors z t marks i e h = ap (λ (s : Sizes). look_verdict (fits n sensors s) n marks i) (sym e) ∙ sym h
 
 pub granted≢refused : (k : ℕ) → granted ≡ refused k → ⊥
 granted≢refused k h = cc

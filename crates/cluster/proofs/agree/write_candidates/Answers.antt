@@ -1,11 +1,11 @@
-use Rattle.std.proofs.Common.{sym, arith}
-use Rattle.protocol.proofs.Sweep.{swept_left, swept_wrote}
+use Rattle.std.proofs.Common.{ap, rules, div-one}
+use Rattle.quorum.specs.Counting.{bit}
+use Rattle.cluster.specs.Writing.{Could, faulty_at}
+use Rattle.cluster.proofs.Wrote.{wrote_as, written_where}
 use Rattle.cluster.proofs.agree.write_candidates.Goals as goal
-use Rattle.cluster.proofs.agree.write_candidates.Goals.{then-is_sound, else-is_sound}
 
-pub loop-i-preserved : goal.loop-i-preserved
-loop-i-preserved g c =
-    elim c.if-is_sound.branch [
-      | then-is_sound w ↦ swept_wrote _ _ c.if-is_sound.candidates w.mask_of.result w.candidates-is (omega arith) (sym w.if-is_sound.ensures) w.mask_of.ensures c.loop-i.invariant
-      | else-is_sound w ↦ swept_left _ _ c.if-is_sound.candidates w.candidates-is (sym w.if-is_sound.ensures) c.loop-i.invariant
-    ]
+pub returns : goal.returns
+returns g c =
+    let p = c.args.parameters in
+    let wants = Could p.sensors c.args.agreed.now in
+    written_where _ (faulty_at p.marks 1) (bit p.marks) wants _ _ (λ i. ap (bit p.marks) (div-one i)) (wrote_as _ wants c.requires c.write_sound.ensures (λ q h s v k. search rules))

@@ -1,23 +1,13 @@
-use Rattle.std.proofs.Common.{◌/◌, sym, arith}
-use Rattle.std.proofs.lemmas.Nat.{mod_below}
-use Rattle.cluster.proofs.Accepting.{hearer_below}
-use Rattle.protocol.proofs.Sweep.{swept_left, swept_wrote}
+use Rattle.std.proofs.Common.{◌*◌, sym, ap, rules}
+use Rattle.std.proofs.Math.Nat.{div-div-eq-div-mul}
+use Rattle.quorum.specs.Counting.{bit}
+use Rattle.cluster.specs.Writing.{Hears, faulty_at, deaf_at}
+use Rattle.cluster.proofs.Wrote.{wrote_as, written_where}
 use Rattle.cluster.proofs.filter.write_heard.Goals as goal
-use Rattle.cluster.proofs.filter.write_heard.Goals.{then-is_sound, else-is_sound}
 
-pub hear-requires : goal.hear-requires
-hear-requires g c =
-    let n = c.args.n in
-    let sensors = c.args.sensors in
-    let p = c.loop-p.p in
-    record {
-      bounds = (omega arith, (omega arith, (hearer_below n sensors p (omega arith) (omega arith) (omega arith), (mod_below (p / sensors) n (omega arith), mod_below p sensors (omega arith)))));
-      lengths = (omega arith, omega arith);
-    }
-
-pub loop-p-preserved : goal.loop-p-preserved
-loop-p-preserved g c =
-    elim c.if-is_sound.branch [
-      | then-is_sound w ↦ swept_wrote _ _ c.if-is_sound.heard w.hear.result w.heard-is (omega arith) (sym w.if-is_sound.ensures) w.hear.ensures c.loop-p.invariant
-      | else-is_sound w ↦ swept_left _ _ c.if-is_sound.heard w.heard-is (sym w.if-is_sound.ensures) c.loop-p.invariant
-    ]
+pub returns : goal.returns
+returns g c =
+    let p = c.args.parameters in
+    let wants = Hears p.n p.sensors p.marks c.args.own.now c.args.claims.now in
+    written_where _ (faulty_at p.marks (p.sensors * p.n)) (deaf_at p.n p.sensors p.marks) wants _ _ (λ q. ap (bit p.marks) (sym (div-div-eq-div-mul q p.sensors p.n)))
+    (wrote_as _ wants c.requires c.write_sound.ensures (λ q h s v k. search rules))

@@ -4,6 +4,6 @@ use Rattle.cluster.proofs.select.row_of.Goals as goal
 
 pub returns : goal.returns
 returns g c = record {
-  is = row_is c.args.agreed.now c.row_start-first.result c.args.sensors (omega arith) c.args.i c.row_start-first.ensures.is;
-  few = row_length c.args.agreed.now c.row_start-first.result c.args.sensors (omega arith);
+  is = row_is c.args.agreed.now c.row_start-first.result c.args.parameters.sensors (omega arith) c.args.i c.row_start-first.ensures.is;
+  few = row_length c.args.agreed.now c.row_start-first.result c.args.parameters.sensors (omega arith);
 }

@@ -1,12 +1,11 @@
-use Rattle.std.proofs.Common.{sym, arith}
-use Rattle.protocol.proofs.Sweep.{swept_left, swept_wrote}
+use Rattle.std.proofs.Common.{ap, rules, div-one}
+use Rattle.quorum.specs.Counting.{bit}
+use Rattle.cluster.specs.Writing.{Chooses, faulty_at}
+use Rattle.cluster.proofs.Wrote.{wrote_as, written_where}
 use Rattle.cluster.proofs.select.write_chosen.Goals as goal
-use Rattle.cluster.proofs.select.write_chosen.Goals.{then-is_sound, else-is_sound}
 
-pub loop-i-preserved : goal.loop-i-preserved
-loop-i-preserved g c =
-    elim c.if-is_sound.branch [
-      | then-is_sound w ↦ swept_wrote _ _ c.if-is_sound.chosen w.choice_of.result w.chosen-is (omega arith) (sym w.if-is_sound.ensures)
-          w.choice_of.ensures c.loop-i.invariant
-      | else-is_sound w ↦ swept_left _ _ c.if-is_sound.chosen w.chosen-is (sym w.if-is_sound.ensures) c.loop-i.invariant
-    ]
+pub returns : goal.returns
+returns g c =
+    let p = c.args.parameters in
+    let wants = Chooses (g.S.Selection.choice c.args.selection.now) p.sensors c.args.agreed.now in
+    written_where _ (faulty_at p.marks 1) (bit p.marks) wants _ _ (λ i. ap (bit p.marks) (div-one i)) (wrote_as _ wants c.requires.chosen_len c.write_sound.ensures (λ q h s v k. search rules))

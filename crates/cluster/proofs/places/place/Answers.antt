@@ -1,6 +1,0 @@
-use Rattle.std.proofs.Common.{refl, arith}
-use Rattle.std.proofs.lemmas.Nat.{mul-add-lt}
-use Rattle.cluster.proofs.places.place.Goals as goal
-
-pub returns : goal.returns
-returns c = record { is = refl; within = omega (arith, mul-add-lt c.args.i c.args.sensors c.args.k c.args.n (omega arith) (omega arith)) }

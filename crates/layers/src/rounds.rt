@@ -32,7 +32,7 @@ impl Instance<'_> {
         requires speakers { self.now.n ≤ length table.now }
         ensures { Counted result self.now.n (heard (given self.now) at (λ j. V.aloud (slice_index_or table.now j V.absent)) i) }
     {
-        let mut tally = Tally { yes: 0, no: 0 };
+        let mut tally = Tally::default();
         for (j, voice) in table[..self.n].iter().enumerate() {
             tally = tally.with(self.heard(at, voice.say(), i, j));
         }
@@ -82,12 +82,12 @@ impl Phase<'_> {
         ensures { (i : ℕ) → i < self.now.instance.n → bits_of result i ≡ phase (given self.now.instance) self.now.king (bits_of bits.now) i }
     {
         let n = self.instance.n;
-        let nothing = Taken {
-            bit: false,
-            firm: false,
-        };
         let proposals = fill(n, Said::Silent, |i| self.propose(bits, i));
-        let taken = fill(n, nothing, |i| self.take_proposed(bits, &proposals, i));
+        let taken = fill(
+            n,
+            Taken::default(),
+            |i| self.take_proposed(bits, &proposals, i),
+        );
         let kings = taken[self.king].bit;
         fill(n, false, |i| self.settle(taken[i], kings, i))
     }

@@ -14,14 +14,14 @@ pub enum Said {
 }
 
 // How many said yes, and how many no.
-#[derive(Clone, Copy)]
+#[derive(Clone, Copy, Default)]
 pub struct Tally {
     pub yes: usize,
     pub no: usize,
 }
 
 // The bit that a replica took from the proposals, and whether enough proposed it to keep it against the king.
-#[derive(Clone, Copy)]
+#[derive(Clone, Copy, Default)]
 pub struct Taken {
     pub bit: bool,
     pub firm: bool,

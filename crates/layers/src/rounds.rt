@@ -1,7 +1,7 @@
 // The rounds of a phase: votes, proposals and the king's round.
 ghost use Rattle.std.specs.Prelude.{◌≡◌, ℕ, ◌+◌, ◌*◌, ◌<◌, ◌≤◌, length, slice_index_or};
-ghost use Rattle.layers.specs.King.{heard, proposal, phase};
-ghost use Rattle.layers.specs.Views.{given, bits_of, said_of, taken_at, settled_to, Counted};
+ghost use Rattle.layers.specs.King.{heard, tally, proposal, phase};
+ghost use Rattle.layers.specs.Views.{given, bits_of, said_of, taken_at, settled_to, counted};
 
 use crate::layer::Instance;
 use crate::phase::Phase;
@@ -30,7 +30,7 @@ impl Instance<'_> {
         requires start { at ≤ 65280 }
         requires receiver { i < self.now.n }
         requires speakers { self.now.n ≤ length table.now }
-        ensures { Counted result self.now.n (heard (given self.now) at (λ j. V.aloud (slice_index_or table.now j V.absent)) i) }
+        ensures { counted result ≡ tally (given self.now) at (λ j. V.aloud (slice_index_or table.now j V.absent)) i }
     {
         let mut tally = Tally::default();
         for (j, voice) in table[..self.n].iter().enumerate() {

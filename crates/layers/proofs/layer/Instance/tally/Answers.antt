@@ -2,8 +2,8 @@ use Rattle.std.proofs.Common.{List, length, take, get_or, ◌≤◌, ◌≡◌, 
 use Rattle.std.proofs.lemmas.List.{get_or-take, get_or_default}
 use Rattle.quorum.proofs.Counts.{count_zero}
 use Rattle.layers.specs.King.{heard}
-use Rattle.layers.specs.Views.{given, Counted}
-use Rattle.layers.proofs.Tallies.{counted_small, counted_more}
+use Rattle.layers.specs.Views.{given}
+use Rattle.layers.proofs.Tallies.{Counted, counted_is, counted_small, counted_more}
 use Rattle.layers.proofs.layer.Instance.tally.Goals as goal
 
 -- what is read among the first n of a list is read there in the whole list
@@ -30,6 +30,7 @@ loop-j-preserved g c =
 
 pub returns : goal.returns
 returns g c =
+    let n = c.args.self.now.n in
     let voices = λ (j : ℕ). g.V.Voice.aloud (slice_index_or c.args.table.now j g.V.Voice.absent) in
-    let all : c.loop-j.j ≡ c.args.self.now.n = omega (arith, length-take c.args.self.now.n c.args.table.now) in
-    subst (λ (m : ℕ). Counted c.loop-j.tally m (heard (given c.args.self.now) c.args.at voices c.args.i)) all c.loop-j.invariant
+    let all : c.loop-j.j ≡ n = omega (arith, length-take n c.args.table.now) in
+    counted_is c.loop-j.tally n _ (subst (λ (m : ℕ). Counted c.loop-j.tally m (heard (given c.args.self.now) c.args.at voices c.args.i)) all c.loop-j.invariant)

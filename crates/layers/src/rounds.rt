@@ -71,6 +71,7 @@ impl Phase<'_> {
         ensures { result ≡ settled_to (given self.now.instance) self.now.king taken kings i }
     {
         let n = self.instance.n;
+        // Read also where it does not count, so that the loop over the replicas branches less.
         let told = self
             .instance
             .bit_from(self.king, kings, self.start + 2 * (n * n) + i);

@@ -1,22 +1,14 @@
 -- A phase depends only on what the n replicas have, propose and took.
-use Rattle.std.proofs.Common.{◌≡◌, ℕ, ◌+◌, ◌-◌, ◌*◌, ◌<◌, Bool, true, false, cond, List, leb, get_or, refl, ap, ◌∙◌, ap₂}
+use Rattle.std.proofs.Common.{◌≡◌, ℕ, ◌+◌, ◌-◌, ◌*◌, ◌<◌, Bool, false, cond, List, leb, get_or, refl, ap, ◌∙◌, ap₂}
 use mathlib.Core.Path.{fun_ext}
-use Rattle.quorum.specs.Counting.{bit, count}
+use Rattle.quorum.specs.Counting.{bit}
 use Rattle.quorum.proofs.Counts.{count_same}
 use Rattle.layers.specs.declared.said.Said.{Said}
 use Rattle.layers.specs.declared.said.Taken.{Taken}
 use Rattle.layers.specs.declared.said.Tally.{Tally}
 use Rattle.layers.specs.Layers.{byte_at}
 use Rattle.layers.specs.King.{Given, said, says, aloud, enough, takes, heard, tally, votes_at, proposals_at, proposal, phase}
-use Rattle.layers.specs.Views.{Counted, counted, taken_at, settled_to}
-
--- a full tally holds the counts of both bits
-pub counted_is : (t : Tally) (n : ℕ) (v : ℕ → Said) → Counted t n v → counted t ≡ (λ b. count n (λ j. says b (v j)))
-counted_is t n v h = fun_ext at
-  where
-    at : (b : Bool) → counted t b ≡ count n (λ j. says b (v j))
-    at true = h.0
-    at false = h.1
+use Rattle.layers.specs.Views.{counted, taken_at, settled_to}
 
 -- what a replica took, by its place in a table
 abbrev pub taken_of : List Taken → ℕ → Taken

@@ -1,10 +1,16 @@
 -- A loop that tallies what one replica hears.
 use Rattle.std.proofs.Common.{◌≡◌, ℕ, ◌+◌, ◌<◌, Bool, true, false, cond, ap, arith}
+use mathlib.Core.Path.{fun_ext}
+use Rattle.quorum.specs.Counting.{count}
 use Rattle.quorum.proofs.Counts.{one, count_le, count_more}
 use Rattle.layers.specs.declared.said.Said.{Said}
 use Rattle.layers.specs.declared.said.Tally.{Tally}
 use Rattle.layers.specs.King.{says}
-use Rattle.layers.specs.Views.{Counted}
+use Rattle.layers.specs.Views.{counted}
+
+-- the tally has counted what the first m replicas say
+abbrev pub Counted : Tally → ℕ → (ℕ → Said) → Type 0
+Counted t m v = (t.yes ≡ count m (λ j. says true (v j))) × (t.no ≡ count m (λ j. says false (v j)))
 
 module _ (t : Tally) (m : ℕ) (v : ℕ → Said) (before : Counted t m v) where
   -- a tally never passes the place
@@ -19,3 +25,11 @@ module _ (t : Tally) (m : ℕ) (v : ℕ → Said) (before : Counted t m v) where
         omega (arith, before.0, here true, count_more m (λ j. says true (v j))),
         omega (arith, before.1, here false, count_more m (λ j. says false (v j))),
       )
+
+-- a full tally holds the counts of both bits
+pub counted_is : (t : Tally) (n : ℕ) (v : ℕ → Said) → Counted t n v → counted t ≡ (λ b. count n (λ j. says b (v j)))
+counted_is t n v h = fun_ext at
+  where
+    at : (b : Bool) → counted t b ≡ count n (λ j. says b (v j))
+    at true = h.0
+    at false = h.1

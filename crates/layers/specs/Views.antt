@@ -1,12 +1,11 @@
 -- The code's tables as the functions that the algorithm speaks of.
-use Rattle.std.specs.Prelude.{◌≡◌, ℕ, ◌+◌, Bool, true, false, cond, List, slice_index_or}
-use Rattle.quorum.specs.Counting.{count}
+use Rattle.std.specs.Prelude.{ℕ, ◌+◌, Bool, true, false, cond, List, slice_index_or}
 use Rattle.layers.specs.declared.layer.Instance.{Instance}
 use Rattle.layers.specs.declared.said.Said.{Said}
 use Rattle.layers.specs.declared.said.Said.TheVariants.{Silent}
 use Rattle.layers.specs.declared.said.Taken.{Taken}
 use Rattle.layers.specs.declared.said.Tally.{Tally}
-use Rattle.layers.specs.King.{Given, says, taken, firm, king_at}
+use Rattle.layers.specs.King.{Given, taken, firm, king_at}
 use Rattle.layers.specs.Layers.{bit_from}
 
 -- what an instance is given
@@ -32,7 +31,3 @@ settled_to g p t kings i = cond t.firm t.bit (bit_from g.marks p kings g.words (
 abbrev pub counted : Tally → Bool → ℕ
 counted t true = t.yes
 counted t false = t.no
-
--- the tally has counted what the first m replicas say
-abbrev pub Counted : Tally → ℕ → (ℕ → Said) → Type 0
-Counted t m v = (t.yes ≡ count m (λ j. says true (v j))) × (t.no ≡ count m (λ j. says false (v j)))

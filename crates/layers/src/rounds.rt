@@ -1,7 +1,7 @@
 // The rounds of a phase: votes, proposals and the king's round.
 ghost use Rattle.std.specs.Prelude.{◌≡◌, ℕ, ◌+◌, ◌*◌, ◌<◌, ◌≤◌, length, slice_index_or};
-ghost use Rattle.layers.specs.King.{heard, proposal, phase};
-ghost use Rattle.layers.specs.Views.{given, bits_of, said_of, taken_at, settled_to, Counted};
+ghost use Rattle.layers.specs.King.{heard, tally, proposal, phase};
+ghost use Rattle.layers.specs.Views.{given, bits_of, said_of, taken_at, settled_to, counted};
 
 use crate::layer::Instance;
 use crate::phase::Phase;
@@ -30,9 +30,9 @@ impl Instance<'_> {
         requires start { at ≤ 65280 }
         requires receiver { i < self.now.n }
         requires speakers { self.now.n ≤ length table.now }
-        ensures { Counted result self.now.n (heard (given self.now) at (λ j. V.aloud (slice_index_or table.now j V.absent)) i) }
+        ensures { counted result ≡ tally (given self.now) at (λ j. V.aloud (slice_index_or table.now j V.absent)) i }
     {
-        let mut tally = Tally { yes: 0, no: 0 };
+        let mut tally = Tally::default();
         for (j, voice) in table[..self.n].iter().enumerate() {
             tally = tally.with(self.heard(at, voice.say(), i, j));
         }
@@ -71,6 +71,7 @@ impl Phase<'_> {
         ensures { result ≡ settled_to (given self.now.instance) self.now.king taken kings i }
     {
         let n = self.instance.n;
+        // Read also where it does not count, so that the loop over the replicas branches less.
         let told = self
             .instance
             .bit_from(self.king, kings, self.start + 2 * (n * n) + i);
@@ -82,12 +83,12 @@ impl Phase<'_> {
         ensures { (i : ℕ) → i < self.now.instance.n → bits_of result i ≡ phase (given self.now.instance) self.now.king (bits_of bits.now) i }
     {
         let n = self.instance.n;
-        let nothing = Taken {
-            bit: false,
-            firm: false,
-        };
         let proposals = fill(n, Said::Silent, |i| self.propose(bits, i));
-        let taken = fill(n, nothing, |i| self.take_proposed(bits, &proposals, i));
+        let taken = fill(
+            n,
+            Taken::default(),
+            |i| self.take_proposed(bits, &proposals, i),
+        );
         let kings = taken[self.king].bit;
         fill(n, false, |i| self.settle(taken[i], kings, i))
     }

@@ -14,20 +14,20 @@ pub enum Said {
 }
 
 // How many said yes, and how many no.
-#[derive(Clone, Copy)]
+#[derive(Clone, Copy, Default)]
 pub struct Tally {
     pub yes: usize,
     pub no: usize,
 }
 
 // The bit that a replica took from the proposals, and whether enough proposed it to keep it against the king.
-#[derive(Clone, Copy)]
+#[derive(Clone, Copy, Default)]
 pub struct Taken {
     pub bit: bool,
     pub firm: bool,
 }
 
-// What a replica has and says to all in a round.
+// What a replica has and says to all in a round; `From` would promise a relation where a tally needs a function.
 pub trait Voice: Copy {
     // what it says
     ghost aloud: { Self → Said };
@@ -95,6 +95,7 @@ impl Tally {
         ensures yes { result.yes ≡ self.yes + (if says true s then 1 else 0) }
         ensures no { result.no ≡ self.no + (if says false s then 1 else 0) }
     {
+        // By cases, since adding the two tests as numbers takes a quarter more instructions.
         match s {
             Said::Yes => Tally {
                 yes: self.yes + 1,

@@ -1,6 +1,7 @@
 use Rattle.std.proofs.Common.{slice_index_or}
 use Rattle.layers.specs.King.{heard}
-use Rattle.layers.specs.Views.{given, Counted}
+use Rattle.layers.specs.Views.{given}
+use Rattle.layers.proofs.Tallies.{Counted}
 use Rattle.layers.proofs.layer.Instance.tally.Given as goal
 
 -- the tally is of the places before j

@@ -19,11 +19,8 @@ module _ {S M : Type 0} (means : S → M) where
   abbrev Goes : Bool → Option S → S → Type 0
   Goes faulty goes v = SameEntry means (Some v) (cond faulty None goes)
 
-  stays : (b : Bool) (e : Option S) → SameEntry means None (cond b None e) → leaves b e ≡ true
-  stays b e h = ap not (sym (same_present means None (cond b None e) h))
-
-  moves : (b : Bool) (e : Option S) (v : S) → Goes b e v → leaves b e ≡ false
-  moves b e v h = ap not (sym (same_present means (Some v) (cond b None e) h))
+  skips : (b : Bool) (e d : Option S) → SameEntry means d (cond b None e) → leaves b e ≡ not (present d)
+  skips b e d h = ap not (sym (same_present means d (cond b None e) h))
 
   by_bit : (b : Bool) (e : Option S) (before after : List S) (p : ℕ) → Holds after p → WrittenAt (leaves b e) (Goes b e) before after p → ByBit b (Kept before after p) (Stored means e before after p)
   by_bit true e before after p h w = w
@@ -46,7 +43,7 @@ module _ {S M : Type 0} (means : S → M) where
     -- the state of i stays
     pub moved_stays : {before after ys : List S} {taken t i : ℕ} → Follows means (faulty i) (goes i) (over i) Stays → ys ≡ after → t ≡ taken → Moved before after taken i → Moved before ys t (i + 1)
     moved_stays {ys = ys} {i = i} f e k m = record {
-      swept = swept_left _ _ ys e (stays (faulty i) (goes i) f.state) m.swept;
+      swept = swept_left _ _ ys e (skips (faulty i) (goes i) None f.state) m.swept;
       taken_is = k ∙ m.taken_is ∙ sym (count_no i over f.taken);
       few = omega (arith, k, m.few);
     }
@@ -54,7 +51,7 @@ module _ {S M : Type 0} (means : S → M) where
     -- the state that it ran is put in its place
     pub moved_runs : {before after ys : List S} {taken t i : ℕ} (s : S) → Follows means (faulty i) (goes i) (over i) (Runs s) → i < length after → ys ≡ set after i s → t ≡ taken → Moved before after taken i → Moved before ys t (i + 1)
     moved_runs {ys = ys} {i = i} s f l e k m = record {
-      swept = swept_wrote _ _ ys s e l (moves (faulty i) (goes i) s f.state) f.state m.swept;
+      swept = swept_wrote _ _ ys s e l (skips (faulty i) (goes i) (Some s) f.state) f.state m.swept;
       taken_is = k ∙ m.taken_is ∙ sym (count_no i over f.taken);
       few = omega (arith, k, m.few);
     }
@@ -62,7 +59,7 @@ module _ {S M : Type 0} (means : S → M) where
     -- the state that was dispersed to it is, and counts
     pub moved_takes : {before after ys : List S} {taken t i : ℕ} (s : S) → Follows means (faulty i) (goes i) (over i) (Takes s) → i < length after → ys ≡ set after i s → t ≡ taken + 1 → Moved before after taken i → Moved before ys t (i + 1)
     moved_takes {ys = ys} {i = i} s f l e k m = record {
-      swept = swept_wrote _ _ ys s e l (moves (faulty i) (goes i) s f.state) f.state m.swept;
+      swept = swept_wrote _ _ ys s e l (skips (faulty i) (goes i) (Some s) f.state) f.state m.swept;
       taken_is = omega (arith, k, m.taken_is, count_yes i over f.taken);
       few = omega (arith, k, m.few);
     }

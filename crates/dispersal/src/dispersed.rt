@@ -1,8 +1,7 @@
 // What is dispersed, read where it lies and not copied together.
-ghost use Rattle.std.specs.Prelude.{◌≡◌, ◌*◌, ◌<◌, length};
+ghost use Rattle.std.specs.Prelude.{◌<◌};
 ghost use Rattle.protocol.specs.Turns.{dispersal};
 
-use crate::places::place;
 use crate::turns::Turns;
 use protocol::Turn;
 use values::entries::{Entries, entry_at};
@@ -21,7 +20,7 @@ pub(crate) struct Dispersal<'a, S> {
 pub(crate) struct Received<'a, S> {
     pub(crate) dispersal: Dispersal<'a, S>,
     pub(crate) to: usize,
-    ghost one: { to < dispersal.turns.parameters.n },
+    ghost receiver: { to < dispersal.turns.parameters.n },
 }
 
 impl<'a, S: Value> Entries for Received<'a, S> {
@@ -29,7 +28,7 @@ impl<'a, S: Value> Entries for Received<'a, S> {
 
     ghost size = { λ s. s.dispersal.turns.parameters.n };
 
-    ghost entry = { λ s. dispersal s.dispersal.turns.parameters.n s.dispersal.turns.parameters.sensors s.dispersal.turns.parameters.marks s.dispersal.run.now s.dispersal.turns.accept.now s.dispersal.turns.chosen.now s.dispersal.states.now s.to };
+    ghost entry = { λ s. let d = s.dispersal in let t = d.turns in let p = t.parameters in dispersal p.n p.sensors p.marks d.run.now t.accept.now t.chosen.now d.states.now s.to };
 
     fn len(&self) -> usize {
         self.dispersal.turns.parameters.n
@@ -39,7 +38,7 @@ impl<'a, S: Value> Entries for Received<'a, S> {
         let Dispersal { turns, run, states } = self.dispersal;
         let n = turns.parameters.n;
         if !turns.parameters.is_sound(j) {
-            return entry_at(states, place(n, n, j, self.to));
+            return entry_at(states, j * n + self.to);
         }
         match turns.of(j) {
             Turn::Ran(p) => run.get(p).copied(),

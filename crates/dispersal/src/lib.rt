@@ -14,7 +14,6 @@ use values::{Application, Entry};
 
 mod dispersed;
 mod lowest;
-mod places;
 mod sent;
 mod states;
 mod turns;
@@ -49,7 +48,7 @@ pub fn close<'x, A: Application>(
         (lent state.old own.now agreed.now run.now accept.now yes.now heard.now candidates.now chosen.now)
         states.now commands.now state.new result }
 {
-    let Parameters { n, .. } = *parameters;
+    let n = parameters.n;
     let sizes = Sizes::of(
         state, own, agreed, run, accept, yes, heard, candidates, chosen,
     );

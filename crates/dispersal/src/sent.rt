@@ -1,5 +1,4 @@
 // What the replicas send, read where it lies and not copied together.
-ghost use Rattle.std.specs.Prelude.{◌≡◌, ◌*◌, ◌<◌, length};
 ghost use Rattle.protocol.specs.Turns.{sending};
 
 use crate::turns::Turns;
@@ -21,7 +20,7 @@ impl<'a, 's, A: Application> Entries for Sent<'a, 's, A> {
 
     ghost size = { λ s. s.turns.parameters.n };
 
-    ghost entry = { λ s. sending (A.Application.commanded s.app.now) s.turns.parameters.sensors s.turns.parameters.marks s.turns.accept.now s.turns.chosen.now s.state.now s.commands.now };
+    ghost entry = { λ s. let t = s.turns in sending (A.Application.commanded s.app.now) t.parameters.sensors t.parameters.marks t.accept.now t.chosen.now s.state.now s.commands.now };
 
     fn len(&self) -> usize {
         self.turns.parameters.n

@@ -1,5 +1,5 @@
 // The states that sound replicas go on with.
-ghost use Rattle.std.specs.Prelude.{◌≡◌, ℕ, ◌*◌, ◌<◌, length};
+ghost use Rattle.std.specs.Prelude.{◌≡◌, ℕ, ◌<◌, length};
 ghost use Rattle.quorum.specs.Counting.{bit, count};
 ghost use Rattle.protocol.specs.Tables.{Kept, Stored, ByBit};
 ghost use Rattle.dispersal.specs.Turning.{onward, takes_over, Follows};
@@ -21,9 +21,10 @@ impl<'a, S: Value> Dispersal<'a, S> {
     // What becomes of the state of replica i.
     fn next(&self, i: usize) -> Next<S>
         requires { i < self.now.turns.parameters.n }
-        ensures { Follows S.Value.means (bit self.now.turns.parameters.marks i)
-            (onward S.Value.alike self.now.turns.parameters.n self.now.turns.parameters.sensors self.now.turns.parameters.marks self.now.run.now self.now.turns.accept.now self.now.turns.chosen.now self.now.states.now i)
-            (takes_over S.Value.alike self.now.turns.parameters.n self.now.turns.parameters.sensors self.now.turns.parameters.marks self.now.run.now self.now.turns.accept.now self.now.turns.chosen.now self.now.states.now i)
+        ensures { let d = self.now in let t = d.turns in let p = t.parameters in
+            Follows S.Value.means (bit p.marks i)
+            (onward S.Value.alike p.n p.sensors p.marks d.run.now t.accept.now t.chosen.now d.states.now i)
+            (takes_over S.Value.alike p.n p.sensors p.marks d.run.now t.accept.now t.chosen.now d.states.now i)
             result }
     {
         if !self.turns.parameters.is_sound(i) {
@@ -45,9 +46,11 @@ impl<'a, S: Value> Dispersal<'a, S> {
     // Writes the states of the sound replicas, and tells how many took a dispersed one.
     pub(crate) fn write(&self, state: &mut [S]) -> usize
         requires { length state.old ≡ self.now.turns.parameters.n }
-        ensures state { (i : ℕ) → i < self.now.turns.parameters.n → ByBit (bit self.now.turns.parameters.marks i) (Kept state.old state.new i)
-            (Stored S.Value.means (onward S.Value.alike self.now.turns.parameters.n self.now.turns.parameters.sensors self.now.turns.parameters.marks self.now.run.now self.now.turns.accept.now self.now.turns.chosen.now self.now.states.now i) state.old state.new i) }
-        ensures taken { result ≡ count self.now.turns.parameters.n (takes_over S.Value.alike self.now.turns.parameters.n self.now.turns.parameters.sensors self.now.turns.parameters.marks self.now.run.now self.now.turns.accept.now self.now.turns.chosen.now self.now.states.now) }
+        ensures state { let d = self.now in let t = d.turns in let p = t.parameters in
+            (i : ℕ) → i < p.n → ByBit (bit p.marks i) (Kept state.old state.new i)
+            (Stored S.Value.means (onward S.Value.alike p.n p.sensors p.marks d.run.now t.accept.now t.chosen.now d.states.now i) state.old state.new i) }
+        ensures taken { let d = self.now in let t = d.turns in let p = t.parameters in
+            result ≡ count p.n (takes_over S.Value.alike p.n p.sensors p.marks d.run.now t.accept.now t.chosen.now d.states.now) }
     {
         let mut taken = 0;
         for (i, held) in state.iter_mut().enumerate() {

@@ -2,7 +2,6 @@
 ghost use Rattle.std.specs.Prelude.{◌≡◌, ◌*◌, ◌<◌, length};
 ghost use Rattle.protocol.specs.Turns.{turn_at};
 
-use crate::places::place;
 use protocol::Turn;
 use questions::Parameters;
 use selections::NO_SENSOR;
@@ -31,7 +30,7 @@ impl<'a> Turns<'a> {
         if sensor >= self.parameters.sensors {
             return Turn::Behind;
         }
-        let p = place(self.parameters.n, self.parameters.sensors, i, sensor);
+        let p = i * self.parameters.sensors + sensor;
         if self.accept[p] {
             Turn::Ran(p)
         } else {

@@ -28,6 +28,7 @@ pub struct Outcome<C> {
 }
 
 // Closes a cycle: the sound replicas' states go on, and what they then command is voted on. What faulty j says to i of its state stands at place j * n + i of `states`.
+// 'x is named since the checker asks for one lifetime of all that a view borrows; callers need not name it.
 pub fn close<'x, A: Application>(
     parameters: &Parameters,
     app: &'x A,

@@ -6,7 +6,7 @@ use protocol::Turn;
 use values::entries::{Entries, entry_at};
 use values::{Application, Entry};
 
-// What is sent, by the sender: the commands of the states that are held.
+// What is sent, by the sender: the commands of the states that are held, which are lent for less, since they were just written.
 #[derive(Drop)]
 pub(crate) struct Sent<'a, 's, A: Application> {
     pub(crate) turns: Turns<'a>,

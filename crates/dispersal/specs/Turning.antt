@@ -1,19 +1,11 @@
 -- What becomes of a replica's state at commit.
-use Rattle.std.specs.Prelude.{◌≡◌, ℕ, ◌<◌, Bool, true, false, cond, not, ◌&&◌, List, slice_set, Option, Some, None}
+use Rattle.std.specs.Prelude.{◌≡◌, ℕ, Bool, true, false, cond, not, ◌&&◌, List, Option, Some, None}
 use Rattle.quorum.specs.Counting.{bit}
 use Rattle.values.specs.Entries.{SameEntry}
 use Rattle.values.specs.Majority.{majority}
-use Rattle.protocol.specs.declared.Turn.{Turn}
-use Rattle.protocol.specs.declared.Turn.TheVariants.{Idle, Ran, Behind}
 use Rattle.protocol.specs.Turns.{turn_at, dispersal, goes_on, takes}
 use Rattle.dispersal.specs.declared.states.Next.{Next}
 use Rattle.dispersal.specs.declared.states.Next.TheVariants.{Stays, Runs, Takes}
-
--- the place that a turn tells is below the bound
-abbrev pub RanBelow : ℕ → Turn → Type 0
-RanBelow bound Idle = Unit {0}
-RanBelow bound (Ran p) = p < bound
-RanBelow bound Behind = Unit {0}
 
 -- the state that it goes on with, if any
 abbrev pub next_of : {S : Type 0} → Next S → Option S
@@ -26,11 +18,6 @@ abbrev pub taken_by : {S : Type 0} → Next S → Bool
 taken_by Stays = false
 taken_by (Runs s) = false
 taken_by (Takes s) = true
-
--- the states with an entry's value at a place, the same where it is missing
-abbrev pub put_at : {S : Type 0} → List S → ℕ → Option S → List S
-put_at state i None = state
-put_at state i (Some s) = slice_set state i s
 
 module _ {S : Type 0} (alike : S → S → Bool) (n sensors marks : ℕ) (run : List S) (accept : List Bool) (chosen : List ℕ) (states : List (Option S)) (i : ℕ) where
   -- the majority of what was dispersed to i

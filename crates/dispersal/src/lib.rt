@@ -1,20 +1,19 @@
 // What commit does to the lent tables: the states that are run or taken over, and the vote on the commands.
 #![tactic(auto)]
 
-ghost use Rattle.std.specs.Prelude.{◌≡◌, ◌*◌, ◌&&◌, ◌==◌};
 ghost use Rattle.protocol.specs.Setup.{lent};
 ghost use Rattle.dispersal.specs.Closing.{CloseAnswers};
 
+use crate::dispersed::Dispersal;
 use crate::lowest::lowest_sound;
-use crate::sent::vote;
-use crate::states::write_states;
-use questions::asking::stage_refusal;
-use questions::{Parameters, Refusal};
-use values::{Application, Entry, Value};
+use crate::sent::Sent;
+use crate::turns::Turns;
+use questions::{Parameters, Refusal, Sizes};
+use values::entries::majority;
+use values::{Application, Entry};
 
 mod dispersed;
 mod lowest;
-mod places;
 mod sent;
 mod states;
 mod turns;
@@ -28,54 +27,48 @@ pub struct Outcome<C> {
     pub dispersed: usize,
 }
 
-// Whether there is a dispersed state for each sender and receiver, and a command for each sender.
-fn input_fits(parameters: Parameters, states: usize, commands: usize) -> bool
-    ensures { result ≡ (states == parameters.n * parameters.n) && (commands == parameters.n) }
-{
-    states == parameters.n * parameters.n && commands == parameters.n
-}
-
 // Closes a cycle: the sound replicas' states go on, and what they then command is voted on. What faulty j says to i of its state stands at place j * n + i of `states`.
-pub fn close<A: Application>(
+// 'x is named since the checker asks for one lifetime of all that a view borrows; callers need not name it.
+pub fn close<'x, A: Application>(
     parameters: &Parameters,
-    app: &A,
-    states: &[Entry<A::State>],
-    commands: &[Entry<A::Command>],
+    app: &'x A,
+    states: &'x [Entry<A::State>],
+    commands: &'x [Entry<A::Command>],
     state: &mut [A::State],
     own: &[Entry<A::Reading>],
     agreed: &[Entry<A::Reading>],
-    run: &[A::State],
-    accept: &[bool],
+    run: &'x [A::State],
+    accept: &'x [bool],
     yes: &[u16],
     heard: &[Entry<A::Reading>],
     candidates: &[u8],
-    chosen: &[u8],
+    chosen: &'x [u8],
 ) -> Result<Outcome<A::Command>, Refusal>
     ensures { CloseAnswers A.State.Value.means A.State.Value.alike A.Command.Value.means A.Command.Value.alike (A.Application.commanded app.now)
         parameters.now.n parameters.now.sensors parameters.now.marks
         (lent state.old own.now agreed.now run.now accept.now yes.now heard.now candidates.now chosen.now)
         states.now commands.now state.new result }
 {
-    let fit = parameters.tables_fit(
-        state.len(),
-        own.len(),
-        agreed.len(),
-        run.len(),
-        accept.len(),
-        yes.len(),
-        heard.len(),
-        candidates.len(),
-        chosen.len(),
+    let n = parameters.n;
+    let sizes = Sizes::of(
+        state, own, agreed, run, accept, yes, heard, candidates, chosen,
     );
-    let input = input_fits(*parameters, states.len(), commands.len());
-    if let Some(refusal) = stage_refusal(fit, input) {
-        return Err(refusal);
-    }
-    let dispersed = write_states(*parameters, state, run, accept, chosen, states);
+    parameters.ask_stage(sizes, states.len() == n * n && commands.len() == n)?;
+    let turns = Turns {
+        parameters: *parameters,
+        accept,
+        chosen,
+    };
+    let dispersed = Dispersal { turns, run, states }.write(state);
     let low = lowest_sound(*parameters);
-    let won = vote(*parameters, app, state, accept, chosen, commands);
+    let sent = Sent {
+        turns,
+        app,
+        state,
+        commands,
+    };
     Ok(Outcome {
-        vote: won,
+        vote: majority(&sent),
         chosen: chosen[low],
         candidates: candidates[low],
         dispersed,

@@ -1,33 +1,40 @@
 // The turns of the replicas.
 ghost use Rattle.std.specs.Prelude.{◌≡◌, ◌*◌, ◌<◌, length};
 ghost use Rattle.protocol.specs.Turns.{turn_at};
-ghost use Rattle.dispersal.specs.Turning.{RanBelow};
 
-use crate::places::place;
 use protocol::Turn;
 use questions::Parameters;
 use selections::NO_SENSOR;
 
-// The turn of replica i.
-pub(crate) fn turn_of(parameters: Parameters, i: usize, accept: &[bool], chosen: &[u8]) -> Turn
-    requires replica { i < parameters.n }
-    requires accept_len { length accept.now ≡ parameters.n * parameters.sensors }
-    requires chosen_len { length chosen.now ≡ parameters.n }
-    ensures is { result ≡ turn_at parameters.sensors accept.now chosen.now i }
-    ensures within { RanBelow (parameters.n * parameters.sensors) result }
-{
-    let c = chosen[i];
-    if c == NO_SENSOR {
-        return Turn::Idle;
-    }
-    let sensor = c as usize;
-    if sensor >= parameters.sensors {
-        return Turn::Behind;
-    }
-    let p = place(parameters.n, parameters.sensors, i, sensor);
-    if accept[p] {
-        Turn::Ran(p)
-    } else {
-        Turn::Behind
+// What the turns are told by: what was accepted, and the sensors that were chosen.
+#[derive(Clone, Copy)]
+pub(crate) struct Turns<'a> {
+    pub(crate) parameters: Parameters,
+    pub(crate) accept: &'a [bool],
+    pub(crate) chosen: &'a [u8],
+    ghost accepts: { length accept.now ≡ parameters.n * parameters.sensors },
+    ghost choices: { length chosen.now ≡ parameters.n },
+}
+
+impl<'a> Turns<'a> {
+    // The turn of replica i.
+    pub(crate) fn of(&self, i: usize) -> Turn
+        requires { i < self.now.parameters.n }
+        ensures { result ≡ turn_at self.now.parameters.sensors self.now.accept.now self.now.chosen.now i }
+    {
+        let c = self.chosen[i];
+        if c == NO_SENSOR {
+            return Turn::Idle;
+        }
+        let sensor = c as usize;
+        if sensor >= self.parameters.sensors {
+            return Turn::Behind;
+        }
+        let p = i * self.parameters.sensors + sensor;
+        if self.accept[p] {
+            Turn::Ran(p)
+        } else {
+            Turn::Behind
+        }
     }
 }

@@ -9,7 +9,9 @@ use Rattle.questions.specs.Questions.{Admitted, fits, make_verdict}
 use Rattle.questions.specs.Refusals.{number_of}
 use Rattle.questions.specs.declared.Parameters.{Parameters}
 use Rattle.questions.specs.declared.Refusal.{Refusal}
+use Rattle.dispersal.specs.declared.Outcome.{Outcome}
 use Rattle.cluster.specs.declared.Cluster.{Cluster as Held}
+use Rattle.cluster.specs.declared.Committed.{Committed}
 use Rattle.cluster.specs.declared.Refused.{Refused}
 use Rattle.cluster.specs.declared.Unmade.{Unmade}
 
@@ -20,6 +22,10 @@ kept p app layer = record { n = p.n; f = p.f; sensors = p.sensors; marks = p.mar
 -- of a cluster at any stage
 abbrev pub kept_by : {P L G : Type 0} → Held P L G → Cluster P L
 kept_by c = kept c.parameters c.app c.layer
+
+-- what commit answers, as the protocol has it
+abbrev pub outcome_of : {C : Type 0} → Outcome C → Answered C
+outcome_of o = record { vote = o.vote; chosen = o.chosen; candidates = o.candidates; dispersed = o.dispersed }
 
 -- a moment: the stage, the tables, and what the last call answered
 abbrev pub at : {R S C : Type 0} → Stage → Tables R S → Answer S C → Moment R S C
@@ -92,6 +98,11 @@ module _ {P L R S C : Type 0} (w : Semantics P L R S C) where
   abbrev pub SelectAnswers : {G H : Type 0} → Held P L G → Rule R → Tables R S → Tables R S → Result (Held P L H) (Refused (Held P L G)) → Type 0
   SelectAnswers c rule t t' (Ok next) = Accepted (select (sizes t) rule) agreed chosen (kept_by c) t t' nothing (kept_by next)
   SelectAnswers c rule t t' (Err e) = Rejected (select (sizes t) rule) agreed (kept_by c) t t' c e.cluster e.refusal
+
+  -- what commit answers
+  abbrev pub CommitAnswers : {G : Type 0} → Held P L G → List (Option S) → List (Option C) → Tables R S → Tables R S → Result (Committed P L C) (Refused (Held P L G)) → Type 0
+  CommitAnswers c states commands t t' (Ok closed) = Accepted (commit (sizes t) states commands) chosen rest (kept_by c) t t' (outcome (outcome_of closed.outcome)) (kept_by closed.cluster)
+  CommitAnswers c states commands t t' (Err e) = Rejected (commit (sizes t) states commands) chosen (kept_by c) t t' c e.cluster e.refusal
 
   -- Abandoned from any stage inside a cycle: at rest, and no table is written, whichever they are.
   abbrev pub Abandoned : Stage → Cluster P L → Cluster P L → Type 0

@@ -1,7 +1,7 @@
 // The cluster: a type for each stage, and the calls that lead from one to the next.
 #![tactic(auto)]
 
-// use dispersal::Outcome;
+use dispersal::Outcome;
 use questions::Parameters;
 pub use questions::Refusal;
 use stages::Rest;
@@ -9,13 +9,13 @@ use std::marker::PhantomData;
 
 pub mod abandon;
 pub mod agree;
-// pub mod commit;
+pub mod commit;
 mod deliver;
 pub mod filter;
 pub mod intake;
 pub mod look;
-mod mask;
 pub mod making;
+mod mask;
 mod moves;
 mod places;
 mod row;
@@ -45,4 +45,11 @@ pub struct Unmade<A, L> {
     pub app: A,
     pub layer: L,
     pub refusal: Refusal,
+}
+
+// A committed cycle: the cluster at rest, and what came of it.
+#[derive(Drop)]
+pub struct Committed<A, L, C> {
+    pub cluster: Cluster<A, L, Rest>,
+    pub outcome: Outcome<C>,
 }

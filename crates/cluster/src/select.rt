@@ -61,7 +61,12 @@ fn write_chosen<R: Value, S: Selection<R>>(
     requires chosen_len { length chosen.old ≡ parameters.n }
     ensures { Written parameters.n (bit parameters.marks) (Chooses (S.Selection.choice selection.now) parameters.sensors agreed.now) chosen.old chosen.new }
 {
-    write_sound(parameters, 1, chosen, |i| choice_of(parameters, selection, agreed, i));
+    write_sound(
+        parameters,
+        1,
+        chosen,
+        |i| choice_of(parameters, selection, agreed, i),
+    );
 }
 
 impl<A: Application, L: Layer> Cluster<A, L, Agreed> {

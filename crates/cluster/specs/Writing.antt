@@ -1,5 +1,5 @@
 -- Tables that are written place by place.
-use Rattle.std.specs.Prelude.{◌≡◌, ℕ, ◌+◌, ◌-◌, ◌*◌, ◌/◌, ◌%◌, ◌^◌, ◌<◌, ◌≤◌, Bool, false, cond, not, ◌&&◌, ◌||◌, List, take, drop, nat_le, slice_index, slice_index_or, Option, Some, None}
+use Rattle.std.specs.Prelude.{◌≡◌, ℕ, ◌+◌, ◌-◌, ◌*◌, ◌/◌, ◌%◌, ◌^◌, ◌<◌, Bool, false, cond, not, ◌&&◌, ◌||◌, List, take, drop, nat_le, slice_index, slice_index_or, Option, Some, None}
 use Rattle.quorum.specs.Counting.{bit, count}
 use Rattle.values.specs.Entries.{present, entry_at, SameEntry, matches}
 use Rattle.values.specs.Majority.{majority}

@@ -10,8 +10,7 @@ ghost use Rattle.cluster.specs.Writing.{faulty_at, heard_row, agrees_on, AgreesO
 
 use crate::deliver::Instances;
 use crate::mask::mask_of;
-use crate::places::place;
-use crate::row::{Heeded, Row};
+use crate::row::{Heard, Heeded, Row};
 use crate::stages::{Agreed, Filtered};
 use crate::writing::write_sound;
 use crate::{Cluster, Refused};
@@ -24,10 +23,10 @@ use values::{Application, Entry, Value};
 
 // What a replica agrees on of a sensor, from its mask and what it heard.
 fn agree_on<R: Value>(row: &Row<'_, R>, mask: u16, accepted: bool, own: Entry<R>) -> Entry<R>
-    requires { mask < 2 ^ row.now.parameters.n }
-    ensures { let p = row.now.parameters in SameEntry R.Value.means result (agrees_on R.Value.alike p.n p.f (bit mask) accepted own (heard_row p.n p.sensors row.now.heard.now row.now.i row.now.k)) }
+    requires { mask < 2 ^ row.now.heard.now.parameters.n }
+    ensures { let h = row.now.heard.now in let p = h.parameters in SameEntry R.Value.means result (agrees_on R.Value.alike p.n p.f (bit mask) accepted own (heard_row p.n p.sensors h.entries.now row.now.i row.now.k)) }
 {
-    let Parameters { n, f, .. } = row.parameters;
+    let Parameters { n, f, .. } = row.heard.parameters;
     if set_bits(mask) < n - f {
         return None;
     }
@@ -38,37 +37,42 @@ fn agree_on<R: Value>(row: &Row<'_, R>, mask: u16, accepted: bool, own: Entry<R>
     }
 }
 
-// Writes agreed at the places of the sound replicas.
-fn write_agreed<R: Value>(
-    parameters: Parameters,
-    own: &[Entry<R>],
-    accept: &[bool],
-    yes: &[u16],
-    heard: &[Entry<R>],
-    agreed: &mut [Entry<R>],
-)
-    requires accept_len { length accept.now ≡ parameters.n * parameters.sensors }
-    requires yes_len { length yes.now ≡ parameters.n * parameters.sensors }
-    requires heard_len { length heard.now ≡ parameters.n * parameters.n * parameters.sensors }
-    requires agreed_len { length agreed.old ≡ parameters.n * parameters.sensors }
-    requires masks_fit { (p : ℕ) → p < parameters.n * parameters.sensors → faulty_at parameters.marks parameters.sensors p ≡ false → slice_index yes.now p < 2 ^ parameters.n }
-    ensures { Written (parameters.n * parameters.sensors) (faulty_at parameters.marks parameters.sensors) (AgreesOn R.Value.means R.Value.alike parameters.n parameters.f parameters.sensors own.now accept.now yes.now heard.now) agreed.old agreed.new }
-{
-    write_sound(
-        parameters,
-        parameters.sensors,
-        agreed,
-        |p|
-            requires place { p < parameters.n * parameters.sensors }
-            requires accept_len { length accept.now ≡ parameters.n * parameters.sensors }
-            requires yes_len { length yes.now ≡ parameters.n * parameters.sensors }
-            requires heard_len { length heard.now ≡ parameters.n * parameters.n * parameters.sensors }
-            requires mask_fits { slice_index yes.now p < 2 ^ parameters.n }
-        {
-            let row = Row::of_place(parameters, p, heard);
-            agree_on(&row, yes[p], accept[p], entry_at(own, p))
-        },
-    );
+// What the replicas work their agreed entries out from; no mask of a sound one has a bit from n on.
+#[derive(Drop)]
+struct Grounds<'a, R> {
+    heard: &'a Heard<'a, R>,
+    own: &'a [Entry<R>],
+    accept: &'a [bool],
+    yes: &'a [u16],
+    ghost accept_len: { length accept.now ≡ heard.now.parameters.n * heard.now.parameters.sensors },
+    ghost yes_len: { length yes.now ≡ heard.now.parameters.n * heard.now.parameters.sensors },
+    ghost masks_fit: { (p : ℕ) → p < heard.now.parameters.n * heard.now.parameters.sensors → faulty_at heard.now.parameters.marks heard.now.parameters.sensors p ≡ false → slice_index yes.now p < 2 ^ heard.now.parameters.n },
+}
+
+impl<'a, R: Value> Grounds<'a, R> {
+    // What is agreed on at a sound replica's place.
+    fn agreed_at(&self, p: usize) -> Entry<R>
+        requires place { p < self.now.heard.now.parameters.n * self.now.heard.now.parameters.sensors }
+        requires sound { faulty_at self.now.heard.now.parameters.marks self.now.heard.now.parameters.sensors p ≡ false }
+        ensures { let q = self.now.heard.now.parameters in AgreesOn R.Value.means R.Value.alike q.n q.f q.sensors self.now.own.now self.now.accept.now self.now.yes.now self.now.heard.now.entries.now p result }
+    {
+        let row = self.heard.row(p);
+        agree_on(&row, self.yes[p], self.accept[p], entry_at(self.own, p))
+    }
+
+    // Writes agreed at the places of the sound replicas.
+    fn write_agreed(&self, agreed: &mut [Entry<R>])
+        requires { length agreed.old ≡ self.now.heard.now.parameters.n * self.now.heard.now.parameters.sensors }
+        ensures { let q = self.now.heard.now.parameters in Written (q.n * q.sensors) (faulty_at q.marks q.sensors) (AgreesOn R.Value.means R.Value.alike q.n q.f q.sensors self.now.own.now self.now.accept.now self.now.yes.now self.now.heard.now.entries.now) agreed.old agreed.new }
+    {
+        let parameters = self.heard.parameters;
+        write_sound(
+            parameters,
+            parameters.sensors,
+            agreed,
+            |p| self.agreed_at(p),
+        );
+    }
 }
 
 // The sensors on which replica i agreed, as a mask.
@@ -78,7 +82,7 @@ fn candidates_of<R: Value>(parameters: Parameters, agreed: &[Entry<R>], i: usize
 {
     mask_of(
         parameters.sensors,
-        |k| entry_at(agreed, place(parameters, i, k)).is_some(),
+        |k| entry_at(agreed, i * parameters.sensors + k).is_some(),
     ) as u8
 }
 
@@ -133,7 +137,17 @@ impl<A: Application, L: Layer> Cluster<A, L, Filtered> {
             words,
         };
         instances.write_yes(yes);
-        write_agreed(parameters, own, accept, yes, heard, agreed);
+        let heard = Heard {
+            parameters,
+            entries: heard,
+        };
+        let grounds = Grounds {
+            heard: &heard,
+            own,
+            accept,
+            yes,
+        };
+        grounds.write_agreed(agreed);
         write_candidates(parameters, agreed, candidates);
         Ok(self.at())
     }

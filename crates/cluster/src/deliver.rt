@@ -6,7 +6,6 @@ ghost use Rattle.protocol.specs.Tables.{MaskOf, Written};
 ghost use Rattle.cluster.specs.Writing.{faulty_at, bit_of, instance_words, gets, Gets};
 
 use crate::mask::mask_of;
-use crate::places::place;
 use crate::writing::write_sound;
 use layers::layer::{Instance, Layer};
 use questions::Parameters;
@@ -48,7 +47,7 @@ impl<'a, L: Layer> Instances<'a, L> {
         requires sensor { k < self.now.parameters.sensors }
         ensures { result ≡ bit_of self.now.parameters.sensors self.now.parameters.marks self.now.accept.now j k }
     {
-        self.parameters.is_sound(j) && self.accept[place(self.parameters, j, k)]
+        self.parameters.is_sound(j) && self.accept[j * self.parameters.sensors + k]
     }
 
     // What is delivered in instance m, whose sender is m % n and whose sensor is m / n.

@@ -6,8 +6,7 @@ ghost use Rattle.cluster.specs.Answers.{FilterAnswers};
 ghost use Rattle.protocol.specs.Tables.{Written};
 ghost use Rattle.cluster.specs.Writing.{faulty_at, deaf_at, heard_from, Hears, heard_row, accepts_own, Accepts};
 
-use crate::places::{heard_place, place};
-use crate::row::Row;
+use crate::row::{Heard, Row};
 use crate::stages::{Filtered, TakenIn};
 use crate::writing::write_sound;
 use crate::{Cluster, Refused};
@@ -31,10 +30,11 @@ fn hear<R: Value>(
     requires sensor { k < parameters.sensors }
     ensures { result ≡ heard_from parameters.n parameters.sensors parameters.marks own.now claims.now i j k }
 {
+    let Parameters { n, sensors, .. } = parameters;
     if parameters.is_sound(j) {
-        entry_at(own, place(parameters, j, k))
+        entry_at(own, j * sensors + k)
     } else {
-        entry_at(claims, heard_place(parameters, j, i, k))
+        entry_at(claims, (j * n + i) * sensors + k)
     }
 }
 
@@ -73,9 +73,9 @@ fn write_heard<R: Value>(
 
 // Whether an own entry is accepted, by what was heard of its sensor.
 fn accepts<R: Value>(row: &Row<'_, R>, e: Entry<R>) -> bool
-    ensures { let p = row.now.parameters in result ≡ accepts_own R.Value.alike p.n p.f e (heard_row p.n p.sensors row.now.heard.now row.now.i row.now.k) }
+    ensures { let h = row.now.heard.now in let p = h.parameters in result ≡ accepts_own R.Value.alike p.n p.f e (heard_row p.n p.sensors h.entries.now row.now.i row.now.k) }
 {
-    let Parameters { n, f, .. } = row.parameters;
+    let Parameters { n, f, .. } = row.heard.parameters;
     match e {
         Some(x) => matches(row, &x) >= n - f,
         None => false,
@@ -83,19 +83,16 @@ fn accepts<R: Value>(row: &Row<'_, R>, e: Entry<R>) -> bool
 }
 
 // Writes accept at the places of the sound replicas.
-fn write_accept<R: Value>(
-    parameters: Parameters,
-    own: &[Entry<R>],
-    heard: &[Entry<R>],
-    accept: &mut [bool],
-)
-    requires heard_len { length heard.now ≡ parameters.n * parameters.n * parameters.sensors }
-    requires accept_len { length accept.old ≡ parameters.n * parameters.sensors }
-    ensures { Written (parameters.n * parameters.sensors) (faulty_at parameters.marks parameters.sensors) (Accepts R.Value.alike parameters.n parameters.f parameters.sensors own.now heard.now) accept.old accept.new }
+fn write_accept<R: Value>(heard: &Heard<'_, R>, own: &[Entry<R>], accept: &mut [bool])
+    requires { length accept.old ≡ heard.now.parameters.n * heard.now.parameters.sensors }
+    ensures { let p = heard.now.parameters in Written (p.n * p.sensors) (faulty_at p.marks p.sensors) (Accepts R.Value.alike p.n p.f p.sensors own.now heard.now.entries.now) accept.old accept.new }
 {
-    write_sound(parameters, parameters.sensors, accept, |p| {
-        accepts(&Row::of_place(parameters, p, heard), entry_at(own, p))
-    });
+    write_sound(
+        heard.parameters,
+        heard.parameters.sensors,
+        accept,
+        |p| accepts(&heard.row(p), entry_at(own, p)),
+    );
 }
 
 impl<A: Application, L: Layer> Cluster<A, L, TakenIn> {
@@ -131,7 +128,11 @@ impl<A: Application, L: Layer> Cluster<A, L, TakenIn> {
             });
         }
         write_heard(parameters, own, claims, heard);
-        write_accept(parameters, own, heard, accept);
+        let heard = Heard {
+            parameters,
+            entries: heard,
+        };
+        write_accept(&heard, own, accept);
         Ok(self.at())
     }
 }

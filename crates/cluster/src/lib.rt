@@ -17,7 +17,6 @@ pub mod look;
 pub mod making;
 mod mask;
 mod moves;
-mod places;
 mod row;
 pub mod select;
 pub mod stages;

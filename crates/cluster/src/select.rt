@@ -16,57 +16,40 @@ use questions::{Parameters, Sizes};
 use selections::Selection;
 use values::{Application, Entry, Value};
 
-// Where the row of replica i begins.
-fn row_start(parameters: Parameters, i: usize) -> usize
-    requires { i < parameters.n }
-    ensures is { result ≡ i * parameters.sensors }
-    ensures within { result + parameters.sensors ≤ parameters.n * parameters.sensors }
-{
-    i * parameters.sensors
-}
-
-// What replica i agreed on, by the sensor.
-fn row_of<R: Value>(parameters: Parameters, agreed: &[Entry<R>], i: usize) -> &[Entry<R>]
-    requires replica { i < parameters.n }
-    requires agreed_len { length agreed.now ≡ parameters.n * parameters.sensors }
-    ensures is { result.now ≡ agreed_row parameters.sensors agreed.now i }
-    ensures few { length result.now ≡ parameters.sensors }
-{
-    let first = row_start(parameters, i);
-    &agreed[first..first + parameters.sensors]
-}
-
-// The selection's answer on what replica i agreed on.
-fn choice_of<R: Value, S: Selection<R>>(
+// What the replicas agreed on.
+#[derive(Drop)]
+struct Readings<'a, R> {
     parameters: Parameters,
-    selection: &S,
-    agreed: &[Entry<R>],
-    i: usize,
-) -> u8
-    requires replica { i < parameters.n }
-    requires agreed_len { length agreed.now ≡ parameters.n * parameters.sensors }
-    ensures { Chooses (S.Selection.choice selection.now) parameters.sensors agreed.now i result }
-{
-    selection.choose(row_of(parameters, agreed, i))
+    agreed: &'a [Entry<R>],
+    ghost agreed_len: { length agreed.now ≡ parameters.n * parameters.sensors },
 }
 
-// Writes the chosen sensors of the sound replicas.
-fn write_chosen<R: Value, S: Selection<R>>(
-    parameters: Parameters,
-    selection: &S,
-    agreed: &[Entry<R>],
-    chosen: &mut [u8],
-)
-    requires agreed_len { length agreed.now ≡ parameters.n * parameters.sensors }
-    requires chosen_len { length chosen.old ≡ parameters.n }
-    ensures { Written parameters.n (bit parameters.marks) (Chooses (S.Selection.choice selection.now) parameters.sensors agreed.now) chosen.old chosen.new }
-{
-    write_sound(
-        parameters,
-        1,
-        chosen,
-        |i| choice_of(parameters, selection, agreed, i),
-    );
+impl<'a, R: Value> Readings<'a, R> {
+    // What replica i agreed on, by the sensor.
+    fn of(&self, i: usize) -> &[Entry<R>]
+        requires { i < self.now.parameters.n }
+        ensures is { result.now ≡ agreed_row self.now.parameters.sensors self.now.agreed.now i }
+        ensures few { length result.now ≡ self.now.parameters.sensors }
+    {
+        let sensors = self.parameters.sensors;
+        &self.agreed[i * sensors..i * sensors + sensors]
+    }
+
+    // The selection's answer on it.
+    fn choice<S: Selection<R>>(&self, selection: &S, i: usize) -> u8
+        requires { i < self.now.parameters.n }
+        ensures { Chooses (S.Selection.choice selection.now) self.now.parameters.sensors self.now.agreed.now i result }
+    {
+        selection.choose(self.of(i))
+    }
+
+    // Writes the chosen sensors of the sound replicas.
+    fn write_chosen<S: Selection<R>>(&self, selection: &S, chosen: &mut [u8])
+        requires { length chosen.old ≡ self.now.parameters.n }
+        ensures { let p = self.now.parameters in Written p.n (bit p.marks) (Chooses (S.Selection.choice selection.now) p.sensors self.now.agreed.now) chosen.old chosen.new }
+    {
+        write_sound(self.parameters, 1, chosen, |i| self.choice(selection, i));
+    }
 }
 
 impl<A: Application, L: Layer> Cluster<A, L, Agreed> {
@@ -100,7 +83,7 @@ impl<A: Application, L: Layer> Cluster<A, L, Agreed> {
                 refusal,
             });
         }
-        write_chosen(parameters, selection, agreed, chosen);
+        Readings { parameters, agreed }.write_chosen(selection, chosen);
         Ok(self.at())
     }
 }

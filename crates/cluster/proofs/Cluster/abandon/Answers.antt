@@ -1,4 +1,3 @@
-use Rattle.std.proofs.Common.{rules}
 use Rattle.protocol.specs.Model.{in_turn}
 use Rattle.cluster.proofs.Carrying.{abandoned}
 use Rattle.cluster.proofs.Cluster.abandon.Goals as goal

@@ -1,4 +1,4 @@
-use Rattle.std.proofs.Common.{ℕ, ◌+◌, ◌*◌, rules}
+use Rattle.std.proofs.Common.{◌+◌, ◌*◌, rules}
 use Rattle.values.specs.Entries.{present, entry_at}
 use Rattle.cluster.proofs.Masks.{mask_as}
 use Rattle.cluster.proofs.agree.candidates_of.Goals as goal

@@ -1,4 +1,4 @@
-use Rattle.std.proofs.Common.{◌+◌, ℕ, get_or, rules}
+use Rattle.std.proofs.Common.{◌+◌, get_or, rules}
 use Rattle.quorum.specs.Counting.{bit}
 use Rattle.cluster.proofs.Masks.{mask_as}
 use Rattle.cluster.proofs.deliver.column.Goals as goal

@@ -5,5 +5,6 @@ use Rattle.cluster.proofs.filter.write_accept.Goals as goal
 
 pub returns : goal.returns
 returns g c =
-    let p = c.args.parameters in
-    wrote_as _ (Accepts g.R.Value.alike p.n p.f p.sensors c.args.own.now c.args.heard.now) c.requires.accept_len c.write_sound.ensures (λ q h s v k. search rules)
+    let h = c.args.heard.now in
+    let p = h.parameters in
+    wrote_as _ (Accepts g.R.Value.alike p.n p.f p.sensors c.args.own.now h.entries.now) c.requires c.write_sound.ensures (λ q l s v k. search rules)

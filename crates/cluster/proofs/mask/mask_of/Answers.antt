@@ -1,4 +1,4 @@
-use Rattle.std.proofs.Common.{Bool, arith, subst}
+use Rattle.std.proofs.Common.{arith, subst}
 use Rattle.cluster.proofs.Masks.{masked_yes, masked_no}
 use Rattle.cluster.proofs.mask.mask_of.Goals as goal
 use Rattle.cluster.proofs.mask.mask_of.Goals.{then-test, else-test}

@@ -1,29 +1,15 @@
-use Rattle.std.proofs.Common.{true, sym, refl, ◌∙◌, arith}
-use Rattle.protocol.specs.Setup.{sizes, lent, filtered}
+use Rattle.std.proofs.Common.{true, refl, ◌∙◌}
+use Rattle.protocol.specs.Setup.{filtered}
 use Rattle.protocol.specs.Model.{in_turn}
 use Rattle.cluster.proofs.Carrying.{accepted, rejected}
-use Rattle.questions.proofs.Fitting.{verdict-agree, stage_told, granted_fits, same_sizes}
-use Rattle.cluster.proofs.Delivery.{yes_placed, yes_below, agreed_placed, candidates_placed}
+use Rattle.questions.proofs.Fitting.{verdict-agree, stage_told, same_sizes}
+use Rattle.cluster.proofs.Delivery.{yes_placed, agreed_placed, candidates_placed}
 use Rattle.cluster.proofs.agree.Cluster+A+L+Filtered.agree.Goals as goal
 
 pub returns-in-Err : goal.returns-in-Err
 unfolding in_turn
 returns-in-Err g c =
     rejected _ c.never_part.ensures _ filtered refl _ _ (λ start. verdict-agree _ _ _ ∙ stage_told _ _ _ _ _ true c.of-sizes.ensures c.in-Err.ensures) _ _ refl _
-
-pub write_agreed-requires : goal.write_agreed-requires
-write_agreed-requires g c =
-    let a = c.args in
-    let p = a.self.parameters in
-    let t = lent a.state.now a.own.now a.agreed.now a.run.now a.accept.now a.yes.now a.heard.now a.candidates.now a.chosen.now in
-    let fit = granted_fits p.n p.sensors (sizes t) true (sym (stage_told _ _ _ _ _ true c.of-sizes.ensures c.in_default.ensures)) in
-    record {
-      accept_len = fit.accept;
-      yes_len = c.write_yes.auto.yes ∙ fit.yes;
-      heard_len = fit.heard;
-      agreed_len = fit.agreed;
-      masks_fit = yes_below (g.L.Layer.delivered a.self.layer p.n p.f p.marks) (g.L.Layer.size a.self.layer p.n p.f) _ _ _ a.accept.now a.words.now _ _ c.write_yes.ensures;
-    }
 
 pub returns : goal.returns
 unfolding in_turn

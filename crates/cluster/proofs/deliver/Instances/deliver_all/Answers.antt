@@ -1,4 +1,4 @@
-use Rattle.std.proofs.Common.{◌≡◌, ℕ, ◌*◌, ◌<◌, get_or, set, ap, ◌∙◌, arith, get_or-set_other, get_or-set_same, length-set, below_more}
+use Rattle.std.proofs.Common.{◌≡◌, ℕ, ◌<◌, get_or, set, ap, ◌∙◌, arith, get_or-set_other, get_or-set_same, length-set, below_more}
 use Rattle.std.proofs.lemmas.Nat.{mul-le}
 use Rattle.quorum.specs.Counting.{bit}
 use Rattle.layers.specs.Layers.{Sound}

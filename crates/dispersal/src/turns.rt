@@ -27,11 +27,8 @@ impl<'a> Turns<'a> {
             return Turn::Idle;
         }
         let sensor = c as usize;
-        if sensor >= self.parameters.sensors {
-            return Turn::Behind;
-        }
         let p = i * self.parameters.sensors + sensor;
-        if self.accept[p] {
+        if sensor < self.parameters.sensors && self.accept[p] {
             Turn::Ran(p)
         } else {
             Turn::Behind

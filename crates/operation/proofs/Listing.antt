@@ -6,8 +6,9 @@ use Rattle.protocol.specs.Model.{in_turn, model}
 use Rattle.protocol.specs.Clusters.{Semantics, Cluster, Snapshot, config, Came, ConsistentAt, NeverPart, Throughout}
 use Rattle.protocol.proofs.Clusters.{throughout}
 use Rattle.protocol.proofs.Runs.{staged}
-use Rattle.cluster.specs.declared.Rest.{Rest}
-use Rattle.cluster.specs.Answers.{of_rest, here, Made}
+use Rattle.cluster.specs.declared.Cluster.{Cluster as Held}
+use Rattle.cluster.specs.declared.stages.Rest.{Rest}
+use Rattle.cluster.specs.Answers.{kept_by, here, Made}
 use Rattle.operation.specs.declared.AnyStage.{AnyStage}
 use Rattle.operation.specs.declared.AnyStage.TheVariants.{Rest as AtRest}
 use Rattle.operation.specs.declared.Answer.TheVariants.{Nothing}
@@ -84,16 +85,16 @@ all_done {P} {L} {R} {S} {C} {Z} w choice from t cs i r t' never le each came = 
 }
 
 -- made, and then the calls
-pub operated : {P L R S C Z : Type 0} (w : Semantics P L R S C) (choice : Z → Rule R) (given : Cluster P L) (start : S) (t : Tables R S) (state : List S) (t' : Tables R S) (cs : List (Call R S C Z)) (c : Rest P L) (r : Progress P L S C)
-    → Made w given start t (record t { state = state }) (of_rest c) → Performs w choice (record { stage = AtRest c; answer = Nothing }) (record t { state = state }) cs r t' → Operated w choice given start t cs r t'
+pub operated : {P L R S C Z : Type 0} (w : Semantics P L R S C) (choice : Z → Rule R) (given : Cluster P L) (start : S) (t : Tables R S) (state : List S) (t' : Tables R S) (cs : List (Call R S C Z)) (c : Held P L Rest) (r : Progress P L S C)
+    → Made w given start t (record t { state = state }) (kept_by c) → Performs w choice (record { stage = AtRest c; answer = Nothing }) (record t { state = state }) cs r t' → Operated w choice given start t cs r t'
 operated {P} {L} {R} {S} {C} {Z} w choice given start t state t' cs c r made performs =
     let t₁ : Tables R S = record t { state = state } in
-    let q : Snapshot P L R S C = here (of_rest c) rest t₁ nothing in
+    let q : Snapshot P L R S C = here (kept_by c) rest t₁ nothing in
     let P : Sizes → Type 0 = λ z. Came w given start (onto (config w given start) choice z cs []) (standing r t') × ConsistentAt w given start (onto (config w given start) choice z cs []) (standing r t') × Throughout {R = R} w given start (onto (config w given start) choice z cs []) in
     let all = subst P made.sizes (performs.runs given start [] (made.begins nothing).0) in
     record {
       granted = made.asked;
-      cluster = of_rest c;
+      cluster = kept_by c;
       state = state;
       made = made;
       each = subst (λ (z : Sizes). Each w choice z q cs (standing r t')) made.sizes performs.each;

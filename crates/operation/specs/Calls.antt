@@ -7,7 +7,7 @@ use Rattle.protocol.specs.Runs.{refusing}
 use Rattle.questions.specs.Questions.{make_verdict}
 use Rattle.questions.specs.Refusals.{number_of}
 use Rattle.cluster.specs.declared.Unmade.{Unmade}
-use Rattle.cluster.specs.Answers.{of_rest, of_taken_in, of_filtered, of_agreed, of_chosen, outcome_of, here, Made, Accepted, Declined}
+use Rattle.cluster.specs.Answers.{kept_by, outcome_of, here, Made, Accepted, Declined}
 use Rattle.operation.specs.declared.AnyStage.{AnyStage}
 use Rattle.operation.specs.declared.AnyStage.TheVariants.{Rest as AtRest, TakenIn as AtTakenIn, Filtered as AtFiltered, Agreed as AtAgreed, Chosen as AtChosen}
 use Rattle.operation.specs.declared.Call.{Call}
@@ -26,11 +26,11 @@ stage_of (AtChosen c) = chosen
 
 -- what it keeps for life
 abbrev pub cluster_of : {P L : Type 0} → AnyStage P L → Cluster P L
-cluster_of (AtRest c) = of_rest c
-cluster_of (AtTakenIn c) = of_taken_in c
-cluster_of (AtFiltered c) = of_filtered c
-cluster_of (AtAgreed c) = of_agreed c
-cluster_of (AtChosen c) = of_chosen c
+cluster_of (AtRest c) = kept_by c
+cluster_of (AtTakenIn c) = kept_by c
+cluster_of (AtFiltered c) = kept_by c
+cluster_of (AtAgreed c) = kept_by c
+cluster_of (AtChosen c) = kept_by c
 
 -- what the last call answered
 abbrev pub answer_of : {S C : Type 0} → Answer S C → Answered S C

@@ -1,7 +1,8 @@
 // Lists of calls, performed one after another on one cluster.
 #![tactic(auto)]
 
-use cluster::{Agreed, Chosen, Filtered, Rest, TakenIn};
+use cluster::Cluster;
+use cluster::stages::{Agreed, Chosen, Filtered, Rest, TakenIn};
 use dispersal::Outcome;
 use questions::Refusal;
 use values::Entry;
@@ -24,11 +25,11 @@ pub enum Call<'a, R, S, C, Z> {
 // A cluster at whichever stage.
 #[derive(Drop)]
 pub enum AnyStage<A, L> {
-    Rest(Rest<A, L>),
-    TakenIn(TakenIn<A, L>),
-    Filtered(Filtered<A, L>),
-    Agreed(Agreed<A, L>),
-    Chosen(Chosen<A, L>),
+    Rest(Cluster<A, L, Rest>),
+    TakenIn(Cluster<A, L, TakenIn>),
+    Filtered(Cluster<A, L, Filtered>),
+    Agreed(Cluster<A, L, Agreed>),
+    Chosen(Cluster<A, L, Chosen>),
 }
 
 // What a call answered.

@@ -5,7 +5,7 @@ ghost use Rattle.operation.specs.Calls.{asked, standing, Goes, Performs, Operate
 
 use crate::turns::{at_rest, when_agreed, when_chosen, when_filtered, when_taken_in};
 use crate::{Answer, AnyStage, Call, Progress};
-use cluster::{Rest, Unmade};
+use cluster::{Cluster, Unmade};
 use layers::layer::Layer;
 use protocol::never_part;
 use selections::Selection;
@@ -100,7 +100,7 @@ pub fn operate<A: Application, L: Layer, Z: Selection<A::Reading>>(
         (lent state.old own.old agreed.old run.old accept.old yes.old heard.old candidates.old chosen.old) calls.now
         (lent state.new own.new agreed.new run.new accept.new yes.new heard.new candidates.new chosen.new) result }
 {
-    let cluster = Rest::make(
+    let cluster = Cluster::make(
         app, layer, n, f, sensors, marks, start, state, own, agreed, run, accept, yes, heard,
         candidates, chosen,
     )?;

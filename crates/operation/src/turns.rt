@@ -1,18 +1,19 @@
 // One call on a cluster at each stage: a call out of turn is passed over.
 ghost use Rattle.protocol.specs.Setup.{lent, sizes, rest, taken_in, filtered, agreed as agreement, chosen as choice};
 ghost use Rattle.protocol.specs.Clusters.{semantics};
-ghost use Rattle.cluster.specs.Answers.{of_rest, of_taken_in, of_filtered, of_agreed, of_chosen, here};
+ghost use Rattle.cluster.specs.Answers.{kept_by, here};
 ghost use Rattle.operation.specs.Calls.{answer_of, asked, standing, Goes};
 
 use crate::{Answer, AnyStage, Call, Progress};
-use cluster::{Agreed, Chosen, Committed, Filtered, Refused, Rest, TakenIn};
+use cluster::stages::{Agreed, Chosen, Filtered, Rest, TakenIn};
+use cluster::{Cluster, Committed, Refused};
 use layers::layer::Layer;
 use selections::Selection;
 use values::{Application, Entry, Value};
 
 // At rest: an intake or a look.
 pub(crate) fn at_rest<A: Application, L: Layer, Z: Selection<A::Reading>>(
-    cluster: Rest<A, L>,
+    cluster: Cluster<A, L, Rest>,
     last: Answer<A::State, A::Command>,
     call: &Call<'_, A::Reading, A::State, A::Command, Z>,
     state: &mut [A::State],
@@ -26,7 +27,7 @@ pub(crate) fn at_rest<A: Application, L: Layer, Z: Selection<A::Reading>>(
     chosen: &mut [u8],
 ) -> Progress<A, L, A::State, A::Command>
     ensures { Goes (semantics A.Reading.Value A.State.Value A.Command.Value A.Application L.Layer) (asked Z.Selection.choice (sizes (lent state.old own.old agreed.old run.old accept.old yes.old heard.old candidates.old chosen.old)) call.now)
-        (here (of_rest cluster) rest (lent state.old own.old agreed.old run.old accept.old yes.old heard.old candidates.old chosen.old) (answer_of last))
+        (here (kept_by cluster) rest (lent state.old own.old agreed.old run.old accept.old yes.old heard.old candidates.old chosen.old) (answer_of last))
         (standing result (lent state.new own.new agreed.new run.new accept.new yes.new heard.new candidates.new chosen.new)) }
 {
     match call {
@@ -63,7 +64,7 @@ pub(crate) fn at_rest<A: Application, L: Layer, Z: Selection<A::Reading>>(
 
 // Taken in: a filter, or the cycle is left.
 pub(crate) fn when_taken_in<A: Application, L: Layer, Z: Selection<A::Reading>>(
-    cluster: TakenIn<A, L>,
+    cluster: Cluster<A, L, TakenIn>,
     last: Answer<A::State, A::Command>,
     call: &Call<'_, A::Reading, A::State, A::Command, Z>,
     state: &mut [A::State],
@@ -77,7 +78,7 @@ pub(crate) fn when_taken_in<A: Application, L: Layer, Z: Selection<A::Reading>>(
     chosen: &mut [u8],
 ) -> Progress<A, L, A::State, A::Command>
     ensures { Goes (semantics A.Reading.Value A.State.Value A.Command.Value A.Application L.Layer) (asked Z.Selection.choice (sizes (lent state.old own.old agreed.old run.old accept.old yes.old heard.old candidates.old chosen.old)) call.now)
-        (here (of_taken_in cluster) taken_in (lent state.old own.old agreed.old run.old accept.old yes.old heard.old candidates.old chosen.old) (answer_of last))
+        (here (kept_by cluster) taken_in (lent state.old own.old agreed.old run.old accept.old yes.old heard.old candidates.old chosen.old) (answer_of last))
         (standing result (lent state.new own.new agreed.new run.new accept.new yes.new heard.new candidates.new chosen.new)) }
 {
     match call {
@@ -106,7 +107,7 @@ pub(crate) fn when_taken_in<A: Application, L: Layer, Z: Selection<A::Reading>>(
 
 // Filtered: an agree, or the cycle is left.
 pub(crate) fn when_filtered<A: Application, L: Layer, Z: Selection<A::Reading>>(
-    cluster: Filtered<A, L>,
+    cluster: Cluster<A, L, Filtered>,
     last: Answer<A::State, A::Command>,
     call: &Call<'_, A::Reading, A::State, A::Command, Z>,
     state: &mut [A::State],
@@ -120,7 +121,7 @@ pub(crate) fn when_filtered<A: Application, L: Layer, Z: Selection<A::Reading>>(
     chosen: &mut [u8],
 ) -> Progress<A, L, A::State, A::Command>
     ensures { Goes (semantics A.Reading.Value A.State.Value A.Command.Value A.Application L.Layer) (asked Z.Selection.choice (sizes (lent state.old own.old agreed.old run.old accept.old yes.old heard.old candidates.old chosen.old)) call.now)
-        (here (of_filtered cluster) filtered (lent state.old own.old agreed.old run.old accept.old yes.old heard.old candidates.old chosen.old) (answer_of last))
+        (here (kept_by cluster) filtered (lent state.old own.old agreed.old run.old accept.old yes.old heard.old candidates.old chosen.old) (answer_of last))
         (standing result (lent state.new own.new agreed.new run.new accept.new yes.new heard.new candidates.new chosen.new)) }
 {
     match call {
@@ -149,7 +150,7 @@ pub(crate) fn when_filtered<A: Application, L: Layer, Z: Selection<A::Reading>>(
 
 // Agreed: a select, or the cycle is left.
 pub(crate) fn when_agreed<A: Application, L: Layer, Z: Selection<A::Reading>>(
-    cluster: Agreed<A, L>,
+    cluster: Cluster<A, L, Agreed>,
     last: Answer<A::State, A::Command>,
     call: &Call<'_, A::Reading, A::State, A::Command, Z>,
     state: &mut [A::State],
@@ -163,7 +164,7 @@ pub(crate) fn when_agreed<A: Application, L: Layer, Z: Selection<A::Reading>>(
     chosen: &mut [u8],
 ) -> Progress<A, L, A::State, A::Command>
     ensures { Goes (semantics A.Reading.Value A.State.Value A.Command.Value A.Application L.Layer) (asked Z.Selection.choice (sizes (lent state.old own.old agreed.old run.old accept.old yes.old heard.old candidates.old chosen.old)) call.now)
-        (here (of_agreed cluster) agreement (lent state.old own.old agreed.old run.old accept.old yes.old heard.old candidates.old chosen.old) (answer_of last))
+        (here (kept_by cluster) agreement (lent state.old own.old agreed.old run.old accept.old yes.old heard.old candidates.old chosen.old) (answer_of last))
         (standing result (lent state.new own.new agreed.new run.new accept.new yes.new heard.new candidates.new chosen.new)) }
 {
     match call {
@@ -192,7 +193,7 @@ pub(crate) fn when_agreed<A: Application, L: Layer, Z: Selection<A::Reading>>(
 
 // Chosen: a commit, or the cycle is left.
 pub(crate) fn when_chosen<A: Application, L: Layer, Z: Selection<A::Reading>>(
-    cluster: Chosen<A, L>,
+    cluster: Cluster<A, L, Chosen>,
     last: Answer<A::State, A::Command>,
     call: &Call<'_, A::Reading, A::State, A::Command, Z>,
     state: &mut [A::State],
@@ -206,7 +207,7 @@ pub(crate) fn when_chosen<A: Application, L: Layer, Z: Selection<A::Reading>>(
     chosen: &mut [u8],
 ) -> Progress<A, L, A::State, A::Command>
     ensures { Goes (semantics A.Reading.Value A.State.Value A.Command.Value A.Application L.Layer) (asked Z.Selection.choice (sizes (lent state.old own.old agreed.old run.old accept.old yes.old heard.old candidates.old chosen.old)) call.now)
-        (here (of_chosen cluster) choice (lent state.old own.old agreed.old run.old accept.old yes.old heard.old candidates.old chosen.old) (answer_of last))
+        (here (kept_by cluster) choice (lent state.old own.old agreed.old run.old accept.old yes.old heard.old candidates.old chosen.old) (answer_of last))
         (standing result (lent state.new own.new agreed.new run.new accept.new yes.new heard.new candidates.new chosen.new)) }
 {
     match call {

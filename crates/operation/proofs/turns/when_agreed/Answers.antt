@@ -1,6 +1,6 @@
 use Rattle.std.proofs.Common.{refl, ap}
 use Rattle.protocol.specs.Model.{in_turn}
-use Rattle.cluster.specs.Answers.{of_agreed}
+use Rattle.cluster.specs.Answers.{kept_by}
 use Rattle.operation.specs.Calls.{asked}
 use Rattle.operation.proofs.Passing.{goes, comes_back, passes, out_at_agreed}
 use Rattle.operation.proofs.turns.when_agreed.Goals as goal
@@ -11,7 +11,7 @@ returns-in-Ok g c = goes _ (ap (asked g.Z.Selection.choice _) c.in-Select.is) re
 
 pub returns-in-Err : goal.returns-in-Err
 unfolding in_turn
-returns-in-Err g c = comes_back _ (ap (asked g.Z.Selection.choice _) c.in-Select.is) refl of_agreed c.in-Err.ensures refl
+returns-in-Err g c = comes_back _ (ap (asked g.Z.Selection.choice _) c.in-Select.is) refl kept_by c.in-Err.ensures refl
 
 pub returns-in-Abandon : goal.returns-in-Abandon
 unfolding in_turn

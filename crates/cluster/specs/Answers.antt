@@ -79,25 +79,26 @@ module _ {P L R S C : Type 0} (w : Semantics P L R S C) where
   MakeAnswers given start t t' (Ok made) = Made given start t t' (kept_by made)
   MakeAnswers given start t t' (Err e) = Declined given t t' e.app e.layer e.refusal
 
+  -- what a stage up to the choice answers: the cluster at the next stage, or as it was
+  abbrev pub StageAnswers : {G H : Type 0} → Call R S C → Stage → Stage → Held P L G → Tables R S → Tables R S → Result (Held P L H) (Refused (Held P L G)) → Type 0
+  StageAnswers call from to c t t' (Ok next) = Accepted call from to (kept_by c) t t' nothing (kept_by next)
+  StageAnswers call from to c t t' (Err e) = Rejected call from (kept_by c) t t' c e.cluster e.refusal
+
   -- what intake answers
   abbrev pub IntakeAnswers : {G H : Type 0} → Held P L G → List (Option R) → Tables R S → Tables R S → Result (Held P L H) (Refused (Held P L G)) → Type 0
-  IntakeAnswers c entries t t' (Ok next) = Accepted (intake (sizes t) entries) rest taken_in (kept_by c) t t' nothing (kept_by next)
-  IntakeAnswers c entries t t' (Err e) = Rejected (intake (sizes t) entries) rest (kept_by c) t t' c e.cluster e.refusal
+  IntakeAnswers c entries t t' answered = StageAnswers (intake (sizes t) entries) rest taken_in c t t' answered
 
   -- what filter answers
   abbrev pub FilterAnswers : {G H : Type 0} → Held P L G → List (Option R) → Tables R S → Tables R S → Result (Held P L H) (Refused (Held P L G)) → Type 0
-  FilterAnswers c claims t t' (Ok next) = Accepted (filter (sizes t) claims) taken_in filtered (kept_by c) t t' nothing (kept_by next)
-  FilterAnswers c claims t t' (Err e) = Rejected (filter (sizes t) claims) taken_in (kept_by c) t t' c e.cluster e.refusal
+  FilterAnswers c claims t t' answered = StageAnswers (filter (sizes t) claims) taken_in filtered c t t' answered
 
   -- what agree answers
   abbrev pub AgreeAnswers : {G H : Type 0} → Held P L G → List ℕ → Tables R S → Tables R S → Result (Held P L H) (Refused (Held P L G)) → Type 0
-  AgreeAnswers c words t t' (Ok next) = Accepted (agree (sizes t) words) filtered agreed (kept_by c) t t' nothing (kept_by next)
-  AgreeAnswers c words t t' (Err e) = Rejected (agree (sizes t) words) filtered (kept_by c) t t' c e.cluster e.refusal
+  AgreeAnswers c words t t' answered = StageAnswers (agree (sizes t) words) filtered agreed c t t' answered
 
   -- what select answers
   abbrev pub SelectAnswers : {G H : Type 0} → Held P L G → Rule R → Tables R S → Tables R S → Result (Held P L H) (Refused (Held P L G)) → Type 0
-  SelectAnswers c rule t t' (Ok next) = Accepted (select (sizes t) rule) agreed chosen (kept_by c) t t' nothing (kept_by next)
-  SelectAnswers c rule t t' (Err e) = Rejected (select (sizes t) rule) agreed (kept_by c) t t' c e.cluster e.refusal
+  SelectAnswers c rule t t' answered = StageAnswers (select (sizes t) rule) agreed chosen c t t' answered
 
   -- what commit answers
   abbrev pub CommitAnswers : {G : Type 0} → Held P L G → List (Option S) → List (Option C) → Tables R S → Tables R S → Result (Committed P L C) (Refused (Held P L G)) → Type 0

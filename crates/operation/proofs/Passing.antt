@@ -1,16 +1,20 @@
 -- How one call's run goes on, as the list has it.
-use Rattle.std.proofs.Common.{◌≡◌, ℕ, true, false, List, sym, refl, ap, ◌∙◌, ap₂, subst₂, Bor, Option}
+use Rattle.std.proofs.Common.{◌≡◌, ℕ, true, false, List, sym, refl, ap, ◌∙◌, ap₂, subst₂, Bor, Option, Result, Ok, Err}
 use Rattle.std.proofs.lemmas.Bool.{true≢false}
-use Rattle.protocol.specs.Setup.{Rule, Tables, Sizes, Call as Asked, Stage, rest, taken_in, filtered, agreed, chosen, Answer, refusal}
+use Rattle.protocol.specs.Setup.{Rule, Tables, Sizes, Call as Asked, Stage, rest, taken_in, filtered, agreed, chosen, Answer, nothing, refusal}
 use Rattle.protocol.specs.Model.{refused, verdict, in_turn}
 use Rattle.protocol.specs.Clusters.{Semantics, Cluster, Snapshot, config, Carries}
 use Rattle.questions.proofs.Fitting.{granted≢refused}
 use Rattle.questions.specs.Refusals.{number_of}
 use Rattle.questions.specs.declared.Refusal.{Refusal}
-use Rattle.cluster.specs.Answers.{here, Accepted, Rejected}
+use Rattle.cluster.specs.declared.Cluster.{Cluster as Held}
+use Rattle.cluster.specs.declared.Refused.{Refused as Back}
+use Rattle.cluster.specs.Answers.{kept_by, here, Accepted, Rejected, StageAnswers}
+use Rattle.operation.specs.declared.AnyStage.{AnyStage}
+use Rattle.operation.specs.declared.Progress.{Progress}
 use Rattle.operation.specs.declared.Call.{Call}
 use Rattle.operation.specs.declared.Call.TheVariants.{Intake, Filter, Agree, Select, Commit, Abandon, Look}
-use Rattle.operation.specs.Calls.{asked, Quiet, Goes}
+use Rattle.operation.specs.Calls.{cluster_of, stage_of, standing, asked, Quiet, Goes, Passed}
 
 -- a call in its turn, and the same by another term
 module _ {P L R S C : Type 0} (w : Semantics P L R S C) {call call' : Asked R S C} (same : call ≡ call') {from : Stage} {t : Tables R S} {last : Answer S C} {q' : Snapshot P L R S C} (turn : in_turn call' from ≡ true) where
@@ -40,6 +44,21 @@ module _ {P L R S C : Type 0} (w : Semantics P L R S C) {call call' : Asked R S 
   -- refused: the cluster came back, and the tables are as they were
   pub comes_back : {X : Type 0} (of : X → Cluster P L) {t' : Tables R S} {c back : X} {why : Refusal} → Rejected w call' from (of c) t t' c back why → q' ≡ here (of back) from t' (refusal (number_of why)) → Goes w call (here (of c) from t last) q'
   comes_back of {why = why} r d = turned_down why r.asked (r.carries t) (d ∙ ap₂ (λ x u. here (of x) from u (refusal (number_of why))) r.kept r.tables)
+
+  -- a stage was accepted or refused, and where it leaves the cluster
+  pub leaves : {G H : Type 0} {to : Stage} (c : Held P L G) {t' : Tables R S} (answered : Result (Held P L H) (Back (Held P L G))) {ahead : Held P L H → AnyStage P L → Type 0} {back : Held P L G → AnyStage P L → Type 0} (r : Progress P L S C)
+      → StageAnswers w call' from to c t t' answered → Quiet call' nothing → Passed ahead back answered r
+      → ((n : Held P L H) (s : AnyStage P L) → ahead n s → (cluster_of s ≡ kept_by n) × (stage_of s ≡ to))
+      → ((n : Held P L G) (s : AnyStage P L) → back n s → (cluster_of s ≡ kept_by n) × (stage_of s ≡ from))
+      → q' ≡ standing r t' → Goes w call (here (kept_by c) from t last) q'
+  leaves c {t' = t'} (Ok n) r did quiet passed next stays d =
+      let at = next n r.stage passed.0 in
+      let stood : standing r t' ≡ here (kept_by n) _ t' nothing = cc (at.0, at.1, passed.1) in
+      goes did quiet (d ∙ stood)
+  leaves c {t' = t'} (Err e) r did quiet passed next stays d =
+      let at = stays e.cluster r.stage passed.0 in
+      let stood : standing r t' ≡ here (kept_by e.cluster) from t' (refusal (number_of e.refusal)) = cc (at.0, at.1, passed.1) in
+      comes_back kept_by did (d ∙ stood)
 
 -- out of turn: all is as it was
 pub passes : {P L R S C : Type 0} (w : Semantics P L R S C) (call : Asked R S C) (q : Snapshot P L R S C) → in_turn call q.moment.stage ≡ false → Goes w call q q

@@ -6,6 +6,8 @@ use Rattle.protocol.specs.Model.{granted, refused, verdict, in_turn, model}
 use Rattle.protocol.specs.Runs.{refusing}
 use Rattle.questions.specs.Questions.{make_verdict}
 use Rattle.questions.specs.Refusals.{number_of}
+use Rattle.cluster.specs.declared.Cluster.{Cluster as Held}
+use Rattle.cluster.specs.declared.Refused.{Refused as Back}
 use Rattle.cluster.specs.declared.Unmade.{Unmade}
 use Rattle.cluster.specs.Answers.{kept_by, outcome_of, here, Made, Accepted, Declined}
 use Rattle.operation.specs.declared.AnyStage.{AnyStage}
@@ -42,6 +44,11 @@ answer_of (Committed o) = outcome (outcome_of o)
 -- where the calls have come to, on these tables
 abbrev pub standing : {P L R S C : Type 0} → Progress P L S C → Tables R S → Snapshot P L R S C
 standing r t = here (cluster_of r.stage) (stage_of r.stage) t (answer_of r.answer)
+
+-- Where a stage leaves a cluster: ahead where it was accepted, or back where it stood.
+abbrev pub Passed : {P L G H S C : Type 0} → (Held P L H → AnyStage P L → Type 0) → (Held P L G → AnyStage P L → Type 0) → Result (Held P L H) (Back (Held P L G)) → Progress P L S C → Type 0
+Passed ahead back (Ok c) r = ahead c r.stage × (r.answer ≡ Nothing)
+Passed ahead back (Err e) r = back e.cluster r.stage × (r.answer ≡ Refused e.refusal)
 
 -- a call of a list, on tables of these sizes
 abbrev pub asked : {R S C Z : Type 0} → (Z → Rule R) → Sizes → Call R S C Z → Asked R S C

@@ -2,7 +2,7 @@
 ghost use Rattle.protocol.specs.Setup.{lent, sizes, rest, taken_in, filtered, agreed as agreement, chosen as choice};
 ghost use Rattle.protocol.specs.Clusters.{semantics};
 ghost use Rattle.cluster.specs.Answers.{kept_by, here};
-ghost use Rattle.operation.specs.Calls.{answer_of, asked, standing, Goes};
+ghost use Rattle.operation.specs.Calls.{answer_of, asked, standing, Goes, Passed};
 
 use crate::{Answer, AnyStage, Call, Progress};
 use cluster::stages::{Agreed, Chosen, Filtered, Rest, TakenIn};
@@ -10,6 +10,31 @@ use cluster::{Cluster, Committed, Refused};
 use layers::layer::Layer;
 use selections::Selection;
 use values::{Application, Entry, Value};
+
+// Where a stage leaves the cluster: ahead where it was accepted, and back where it stood where it was refused.
+fn passed<A, L, G, H, S, C, F, E>(
+    answered: Result<Cluster<A, L, H>, Refused<Cluster<A, L, G>>>,
+    ahead: F,
+    back: E,
+) -> Progress<A, L, S, C>
+where
+    F: FnOnce(Cluster<A, L, H>) -> AnyStage<A, L> + Drop,
+    E: FnOnce(Cluster<A, L, G>) -> AnyStage<A, L> + Drop,
+    requires ahead { F.IsAlwaysCallable ahead }
+    requires back { E.IsAlwaysCallable back }
+    ensures { Passed (F.post ahead) (E.post back) answered result }
+{
+    match answered {
+        Ok(cluster) => Progress {
+            stage: ahead(cluster),
+            answer: Answer::Nothing,
+        },
+        Err(Refused { cluster, refusal }) => Progress {
+            stage: back(cluster),
+            answer: Answer::Refused(refusal),
+        },
+    }
+}
 
 // At rest: an intake or a look.
 pub(crate) fn at_rest<A: Application, L: Layer, Z: Selection<A::Reading>>(
@@ -31,18 +56,13 @@ pub(crate) fn at_rest<A: Application, L: Layer, Z: Selection<A::Reading>>(
         (standing result (lent state.new own.new agreed.new run.new accept.new yes.new heard.new candidates.new chosen.new)) }
 {
     match call {
-        Call::Intake(entries) => match cluster.intake(
-            entries, state, own, agreed, run, accept, yes, heard, candidates, chosen,
-        ) {
-            Ok(next) => Progress {
-                stage: AnyStage::TakenIn(next),
-                answer: Answer::Nothing,
-            },
-            Err(Refused { cluster, refusal }) => Progress {
-                stage: AnyStage::Rest(cluster),
-                answer: Answer::Refused(refusal),
-            },
-        },
+        Call::Intake(entries) => passed(
+            cluster.intake(
+                entries, state, own, agreed, run, accept, yes, heard, candidates, chosen,
+            ),
+            AnyStage::TakenIn,
+            AnyStage::Rest,
+        ),
         Call::Look(i) => match cluster.look(
             *i, state, own, agreed, run, accept, yes, heard, candidates, chosen,
         ) {
@@ -82,18 +102,13 @@ pub(crate) fn when_taken_in<A: Application, L: Layer, Z: Selection<A::Reading>>(
         (standing result (lent state.new own.new agreed.new run.new accept.new yes.new heard.new candidates.new chosen.new)) }
 {
     match call {
-        Call::Filter(claims) => match cluster.filter(
-            claims, state, own, agreed, run, accept, yes, heard, candidates, chosen,
-        ) {
-            Ok(next) => Progress {
-                stage: AnyStage::Filtered(next),
-                answer: Answer::Nothing,
-            },
-            Err(Refused { cluster, refusal }) => Progress {
-                stage: AnyStage::TakenIn(cluster),
-                answer: Answer::Refused(refusal),
-            },
-        },
+        Call::Filter(claims) => passed(
+            cluster.filter(
+                claims, state, own, agreed, run, accept, yes, heard, candidates, chosen,
+            ),
+            AnyStage::Filtered,
+            AnyStage::TakenIn,
+        ),
         Call::Abandon => Progress {
             stage: AnyStage::Rest(cluster.abandon()),
             answer: Answer::Nothing,
@@ -125,18 +140,13 @@ pub(crate) fn when_filtered<A: Application, L: Layer, Z: Selection<A::Reading>>(
         (standing result (lent state.new own.new agreed.new run.new accept.new yes.new heard.new candidates.new chosen.new)) }
 {
     match call {
-        Call::Agree(words) => match cluster.agree(
-            words, state, own, agreed, run, accept, yes, heard, candidates, chosen,
-        ) {
-            Ok(next) => Progress {
-                stage: AnyStage::Agreed(next),
-                answer: Answer::Nothing,
-            },
-            Err(Refused { cluster, refusal }) => Progress {
-                stage: AnyStage::Filtered(cluster),
-                answer: Answer::Refused(refusal),
-            },
-        },
+        Call::Agree(words) => passed(
+            cluster.agree(
+                words, state, own, agreed, run, accept, yes, heard, candidates, chosen,
+            ),
+            AnyStage::Agreed,
+            AnyStage::Filtered,
+        ),
         Call::Abandon => Progress {
             stage: AnyStage::Rest(cluster.abandon()),
             answer: Answer::Nothing,
@@ -168,18 +178,13 @@ pub(crate) fn when_agreed<A: Application, L: Layer, Z: Selection<A::Reading>>(
         (standing result (lent state.new own.new agreed.new run.new accept.new yes.new heard.new candidates.new chosen.new)) }
 {
     match call {
-        Call::Select(selection) => match cluster.select(
-            *selection, state, own, agreed, run, accept, yes, heard, candidates, chosen,
-        ) {
-            Ok(next) => Progress {
-                stage: AnyStage::Chosen(next),
-                answer: Answer::Nothing,
-            },
-            Err(Refused { cluster, refusal }) => Progress {
-                stage: AnyStage::Agreed(cluster),
-                answer: Answer::Refused(refusal),
-            },
-        },
+        Call::Select(selection) => passed(
+            cluster.select(
+                *selection, state, own, agreed, run, accept, yes, heard, candidates, chosen,
+            ),
+            AnyStage::Chosen,
+            AnyStage::Agreed,
+        ),
         Call::Abandon => Progress {
             stage: AnyStage::Rest(cluster.abandon()),
             answer: Answer::Nothing,

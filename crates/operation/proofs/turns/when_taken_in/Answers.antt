@@ -1,17 +1,13 @@
-use Rattle.std.proofs.Common.{refl, ap}
+use Rattle.std.proofs.Common.{refl, ap, rules}
 use Rattle.protocol.specs.Model.{in_turn}
-use Rattle.cluster.specs.Answers.{kept_by}
 use Rattle.operation.specs.Calls.{asked}
-use Rattle.operation.proofs.Passing.{goes, comes_back, passes, out_at_taken_in}
+use Rattle.operation.proofs.Passing.{goes, leaves, passes, out_at_taken_in}
 use Rattle.operation.proofs.turns.when_taken_in.Goals as goal
 
-pub returns-in-Ok : goal.returns-in-Ok
+pub returns-in-Filter : goal.returns-in-Filter
 unfolding in_turn
-returns-in-Ok g c = goes _ (ap (asked g.Z.Selection.choice _) c.in-Filter.is) refl c.in-Ok.ensures refl refl
-
-pub returns-in-Err : goal.returns-in-Err
-unfolding in_turn
-returns-in-Err g c = comes_back _ (ap (asked g.Z.Selection.choice _) c.in-Filter.is) refl kept_by c.in-Err.ensures refl
+returns-in-Filter g c =
+    leaves _ (ap (asked g.Z.Selection.choice _) c.in-Filter.is) refl _ c.filter.result c.passed.result c.filter.ensures refl c.passed.ensures (λ n s k. search rules) (λ n s k. search rules) refl
 
 pub returns-in-Abandon : goal.returns-in-Abandon
 unfolding in_turn

@@ -108,7 +108,7 @@ fn show_cycle(
         NO_SENSOR => println!(rt; "  chosen none")?,
         sensor => println!(rt; "  chosen sensor {sensor}")?,
     }
-    show_row(rt, "commands", processors.iter().map(|p| p.send()))?;
+    show_row(rt, "commands", processors.iter().map(Processor::send))?;
     show_vote(rt, outcome.vote)
 }
 

@@ -23,11 +23,11 @@ pub struct Processor {
 
 impl Processor {
     // Steps the state by the chosen reading, if there is one.
-    pub fn take(&mut self, reading: &Entry<Count>)
-        ensures { self.new ≡ taken reading.now self.old }
+    pub fn take(&mut self, reading: Entry<Count>)
+        ensures { self.new ≡ taken reading self.old }
     {
         if let Some(x) = reading {
-            self.state = Wheel.step(&self.state, x);
+            self.state = Wheel.step(&self.state, &x);
         }
     }
 
@@ -74,8 +74,8 @@ pub fn vote(processors: &[Processor]) -> Entry<Torque>
 }
 
 // Every processor takes the reading.
-fn take_all(processors: &mut [Processor], reading: &Entry<Count>)
-    ensures { processors.new ≡ map (taken reading.now) processors.old }
+fn take_all(processors: &mut [Processor], reading: Entry<Count>)
+    ensures { processors.new ≡ map (taken reading) processors.old }
 {
     for p in processors.iter_mut() {
         p.take(reading);
@@ -97,7 +97,7 @@ pub fn cycle(processors: &mut [Processor], readings: &[Entry<Count>; 3]) -> Outc
     ensures carried { (s : Count) → Hold processors.old s → MostSound processors.old → CarriedOn readings.now processors.new result.vote s }
 {
     let chosen = MidValue.choose(readings);
-    take_all(processors, &entry_at(readings, usize::from(chosen)));
+    take_all(processors, entry_at(readings, usize::from(chosen)));
     Outcome {
         chosen,
         vote: vote(processors),

@@ -4,12 +4,19 @@ ghost use Rattle.applications.specs.Counts.{leq_count, same_count, same_torque};
 ghost use Rattle.applications.specs.Wheel.{turned, torque_of};
 ghost use Rattle.std.proofs.Common.{rules};
 
+use std::fmt;
 use values::{Application, Ordered, Value};
 
 // A reading or a state.
 #[derive(Clone, Copy, PartialEq, Eq, PartialOrd, Ord, Debug)]
 pub struct Count {
     pub value: i32,
+}
+
+impl fmt::Display for Count {
+    fn fmt<W: fmt::Write>(&self, f: &mut fmt::Formatter<W>) -> fmt::Result {
+        self.value.fmt(f)
+    }
 }
 
 // It means its number, so two that mean the same are equal.
@@ -48,6 +55,12 @@ impl Ordered for Count {
 #[derive(Clone, Copy, PartialEq, Eq, PartialOrd, Ord, Debug)]
 pub struct Torque {
     pub value: i16,
+}
+
+impl fmt::Display for Torque {
+    fn fmt<W: fmt::Write>(&self, f: &mut fmt::Formatter<W>) -> fmt::Result {
+        self.value.fmt(f)
+    }
 }
 
 impl Value for Torque {

@@ -1,8 +1,9 @@
 -- What is sent, place by place, and that a minority of liars does not turn the vote.
-use Rattle.std.proofs.Common.{◌≡◌, ℕ, zero, suc, ◌<◌, Bool, true, false, cond, not, T, List, [], ◌∷◌, map, length, get_or, sym, refl, ap, ◌∙◌, subst, arith, Option, Some}
+use Rattle.std.proofs.Common.{◌≡◌, ℕ, zero, suc, ◌<◌, Bool, true, cond, not, T, List, [], ◌∷◌, map, length, get_or, sym, refl, ap, ◌∙◌, subst, arith, Option, Some}
+use Rattle.std.proofs.lemmas.Bool.{not-true}
 use Rattle.std.proofs.lemmas.List.{length-map}
 use Rattle.quorum.specs.Counting.{count}
-use Rattle.quorum.proofs.Counts.{yes, count_le, count_mono, count_same}
+use Rattle.quorum.proofs.Counts.{yes, is_yes, count_le, count_mono, count_same}
 use Rattle.values.specs.Entries.{present, carries}
 use Rattle.values.specs.Majority.{Most}
 use Rattle.applications.specs.Wheel.{torque_of}
@@ -19,11 +20,7 @@ sent_read (p ∷ ps) (suc i) d l = sent_read ps i d (omega arith)
 -- a sound processor sends the command of the common state
 told : (p : Processor) (s : Count) → T (not p.lies) → p.state ≡ s → sent p ≡ record { value = torque_of s.value }
 told p s t e =
-    ap (λ (b : Bool). record { value = cond b lie (torque_of p.state.value) }) (quiet p.lies t) ∙ ap (λ (c : Count). record { value = torque_of c.value }) e
-  where
-    quiet : (b : Bool) → T (not b) → b ≡ false
-    quiet true t = absurd t
-    quiet false t = refl
+    ap (λ (b : Bool). record { value = cond b lie (torque_of p.state.value) }) (not-true _ (is_yes _ t)) ∙ ap (λ (c : Count). record { value = torque_of c.value }) e
 
 pub sound_sent : (ps : List Processor) (s : Count) → Hold ps s → (i : ℕ) → T (sound_at ps i) → sent_at ps i ≡ Some record { value = torque_of s.value }
 sound_sent [] s h i t = absurd t

@@ -2,96 +2,95 @@
 // Each line of the input is a cycle: the sensors' readings, or `-` for one that gives none.
 #![tactic(auto)]
 
+ghost use Rattle.std.specs.Iterator.{IsFinite};
+
 use agreement::deliver;
-use anyhow::anyhow;
+use anyhow::{Context, Result, ensure};
 use applications::wheel::{Count, Torque};
 use layers::king::PhaseKing;
 use processors::{Processor, cycle};
 use quorum::is_set;
 use selections::NO_SENSOR;
+use std::fmt::{self, Display};
 use values::Entry;
 
 mod agreement;
 mod processors;
 
-// A row of answers, one for each sound replica.
-fn show_bits(rt: &HostRuntime, title: &str, bits: u16) -> anyhow::Result<()> {
-    print!(rt; "  {title}")?;
-    for i in 0..3 {
-        if is_set(bits, i) {
-            print!(rt; " yes")?;
-        } else {
-            print!(rt; " no")?;
+// A reading as a line of the input has it.
+#[derive(Clone, Copy)]
+struct Reading(Entry<Count>);
+
+impl Display for Reading {
+    fn fmt<W: fmt::Write>(&self, f: &mut fmt::Formatter<W>) -> fmt::Result {
+        match self.0 {
+            Some(x) => write!(f, "{x}"),
+            None => f.write_str("-"),
         }
+    }
+}
+
+// A line of the output: what it tells of, and its items.
+fn show_row<I: Iterator + Drop>(rt: &HostRuntime, title: &str, items: I) -> Result<()>
+where
+    I::Item: Display + Drop,
+    requires can { I.can_next items }
+    requires ends { IsFinite (I.remaining items) }
+{
+    print!(rt; "  {title}")?;
+    for item in items {
+        print!(rt; " {item}")?;
     }
     println!(rt; "")?;
     Ok(())
 }
 
+// A row of answers, one for each sound replica.
+fn show_bits(rt: &HostRuntime, title: &str, bits: u16) -> Result<()> {
+    show_row(
+        rt,
+        title,
+        (0..3).map(|i| if is_set(bits, i) { "yes" } else { "no" }),
+    )
+}
+
 // The sender tells replicas 0 and 2 yes and replica 1 no, and then says nothing more.
-fn show_agreement(rt: &HostRuntime) -> anyhow::Result<()> {
+fn show_agreement(rt: &HostRuntime) -> Result<()> {
     println!(rt; "phase king, with a two-faced sender")?;
     show_bits(rt, "told", 5)?;
     show_bits(rt, "got", deliver(&PhaseKing, &[1, 0, 1]))
 }
 
 // One word of a line.
-fn entry_of(word: &str) -> anyhow::Result<Entry<Count>> {
-    if word == "-" {
-        return Ok(None);
+fn entry_of(word: &str) -> Result<Entry<Count>> {
+    match word {
+        "-" => Ok(None),
+        number => Ok(Some(Count {
+            value: number.parse()?,
+        })),
     }
-    let value = word.parse::<i32>()?;
-    Ok(Some(Count { value }))
 }
 
 // The readings of one cycle.
-fn readings_of(line: &str) -> anyhow::Result<[Entry<Count>; 3]> {
+fn readings_of(line: &str) -> Result<[Entry<Count>; 3]> {
     let mut readings = [None; 3];
-    let mut sensor = 0;
-    for word in line.split_whitespace() {
-        if sensor >= 3 {
-            return Err(anyhow!("a cycle has three readings, and a line has more"));
-        }
-        readings[sensor] = entry_of(word)?;
-        sensor += 1;
+    let mut words = line.split_whitespace();
+    for reading in readings.iter_mut() {
+        let word = words
+            .next()
+            .context("a cycle has three readings, and a line has fewer")?;
+        *reading = entry_of(word)?;
     }
-    if sensor < 3 {
-        return Err(anyhow!("a cycle has three readings, and a line has fewer"));
-    }
+    ensure!(
+        words.next().is_none(),
+        "a cycle has three readings, and a line has more"
+    );
     Ok(readings)
 }
 
-fn show_readings(rt: &HostRuntime, readings: &[Entry<Count>]) -> anyhow::Result<()> {
-    print!(rt; "  readings")?;
-    for e in readings {
-        match e {
-            Some(x) => {
-                let value = x.value;
-                print!(rt; " {value}")?;
-            }
-            None => print!(rt; " -")?,
-        }
-    }
-    println!(rt; "")?;
-    Ok(())
-}
-
-fn show_commands(rt: &HostRuntime, processors: &[Processor]) -> anyhow::Result<()> {
-    print!(rt; "  commands")?;
-    for p in processors {
-        let torque = p.send().value;
-        print!(rt; " {torque}")?;
-    }
-    println!(rt; "")?;
-    Ok(())
-}
-
-fn show_vote(rt: &HostRuntime, vote: Entry<Torque>) -> anyhow::Result<()> {
+fn show_vote(rt: &HostRuntime, vote: Entry<Torque>) -> Result<()> {
     match vote {
-        Some(torque) => {
-            let value = torque.value;
-            println!(rt; "  vote {value}")?;
-        }
+        Some(torque) => println!(rt; "  vote {torque}")?,
         None => println!(rt; "  no majority: safe mode")?,
     }
     Ok(())
@@ -102,39 +101,35 @@ fn show_cycle(
     rt: &HostRuntime,
     processors: &mut [Processor],
     readings: &[Entry<Count>; 3],
-) -> anyhow::Result<()> {
-    show_readings(rt, readings)?;
+) -> Result<()> {
+    show_row(rt, "readings", readings.iter().copied().map(Reading))?;
     let outcome = cycle(processors, readings);
-    if outcome.chosen == NO_SENSOR {
-        println!(rt; "  chosen none")?;
-    } else {
-        let chosen = outcome.chosen;
-        println!(rt; "  chosen sensor {chosen}")?;
+    match outcome.chosen {
+        NO_SENSOR => println!(rt; "  chosen none")?,
+        sensor => println!(rt; "  chosen sensor {sensor}")?,
     }
-    show_commands(rt, processors)?;
+    show_row(rt, "commands", processors.iter().map(Processor::send))?;
     show_vote(rt, outcome.vote)
 }
 
 // Runs a cycle for each line of the input.
-fn run_cycles(rt: &HostRuntime, processors: &mut [Processor]) -> anyhow::Result<()> {
-    let mut number: u32 = 0;
-    for line in rt.lines(rt.alloc()) {
+fn run_cycles(rt: &HostRuntime, processors: &mut [Processor]) -> Result<()> {
+    for (line, number) in rt.lines(rt.alloc()).zip(1u64..) {
         let readings = readings_of(line?.as_str())?;
-        number = number.saturating_add(1);
         println!(rt; "cycle {number}")?;
         show_cycle(rt, processors, &readings)?;
     }
     Ok(())
 }
 
-fn main(rt: HostRuntime) -> anyhow::Result<()> {
+fn main(rt: HostRuntime) -> Result<()> {
     let sound = Processor {
         state: Count { value: 0 },
         lies: false,
     };
     let liar = Processor {
-        state: Count { value: 0 },
         lies: true,
+        ..sound
     };
     let mut processors = [sound, sound, sound, liar];
     show_agreement(&rt)?;

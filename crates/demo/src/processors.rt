@@ -9,7 +9,7 @@ ghost use Rattle.demo.specs.Processors.{sent, sent_at, taken, chosen_of, reading
 use applications::wheel::{Count, Torque, Wheel};
 use selections::Selection;
 use selections::mid_value::MidValue;
-use values::entries::{Entries, majority};
+use values::entries::{Entries, entry_at, majority};
 use values::{Application, Entry};
 
 // What a lying processor sends, whatever its state.
@@ -23,11 +23,11 @@ pub struct Processor {
 
 impl Processor {
     // Steps the state by the chosen reading, if there is one.
-    pub fn take(&mut self, reading: &Entry<Count>)
-        ensures { self.new ≡ taken reading.now self.old }
+    pub fn take(&mut self, reading: Entry<Count>)
+        ensures { self.new ≡ taken reading self.old }
     {
         if let Some(x) = reading {
-            self.state = Wheel.step(&self.state, x);
+            self.state = Wheel.step(&self.state, &x);
         }
     }
 
@@ -74,8 +74,8 @@ pub fn vote(processors: &[Processor]) -> Entry<Torque>
 }
 
 // Every processor takes the reading.
-fn take_all(processors: &mut [Processor], reading: &Entry<Count>)
-    ensures { processors.new ≡ map (taken reading.now) processors.old }
+fn take_all(processors: &mut [Processor], reading: Entry<Count>)
+    ensures { processors.new ≡ map (taken reading) processors.old }
 {
     for p in processors.iter_mut() {
         p.take(reading);
@@ -97,20 +97,9 @@ pub fn cycle(processors: &mut [Processor], readings: &[Entry<Count>; 3]) -> Outc
     ensures carried { (s : Count) → Hold processors.old s → MostSound processors.old → CarriedOn readings.now processors.new result.vote s }
 {
     let chosen = MidValue.choose(readings);
-    take_all(processors, &reading_at(readings, chosen as usize));
+    take_all(processors, entry_at(readings, usize::from(chosen)));
     Outcome {
         chosen,
         vote: vote(processors),
-    }
-}
-
-// The entry of a sensor; none past the last.
-fn reading_at(readings: &[Entry<Count>], sensor: usize) -> Entry<Count>
-    ensures { result ≡ entry_at readings.now sensor }
-{
-    if sensor < readings.len() {
-        readings[sensor]
-    } else {
-        None
     }
 }

@@ -1,18 +1,16 @@
-use applications::damped::{Damped, Thrust};
+use applications::damped::{Damped, OutOfRange, Thrust, UnknownThrust};
 use applications::level::Level;
 use std::test::Fail;
-use values::{Application, Entry};
+use values::Application;
 
-fn level(x: f64) -> Result<Level, Fail> {
-    match Level::from_f64(x) {
-        Some(l) => Ok(l),
-        None => Err(Fail::new("a number that should qualify does not")),
-    }
+// The number, read through a level.
+fn number(x: f64) -> Result<f64, OutOfRange> {
+    Level::try_from(x).map(|l| l.number())
 }
 
 // The ends of the range qualify, and so do the smallest numbers.
 #[test]
-fn ends_and_subnormals_qualify(rt: HostRuntime) -> Result<(), Fail> {
+fn ends_and_subnormals_qualify(rt: HostRuntime) {
     for x in [
         1000000.0,
         -1000000.0,
@@ -22,9 +20,8 @@ fn ends_and_subnormals_qualify(rt: HostRuntime) -> Result<(), Fail> {
         -5e-324,
         2.2250738585072014e-308,
     ] {
-        assert_eq!(rt; level(x)?.number(), x);
+        assert_eq!(rt; number(x), Ok(x));
     }
-    Ok(())
 }
 
 // A number just past an end, an infinity and a NaN do not.
@@ -40,14 +37,14 @@ fn others_are_missing(rt: HostRuntime) {
         zero / zero,
     ];
     for x in past {
-        assert!(rt; !Level::from_f64(x).is_some());
+        assert_eq!(rt; number(x), Err(OutOfRange));
     }
 }
 
 // A minus zero is taken as zero: one over it is the positive infinity.
 #[test]
 fn minus_zero_is_zero(rt: HostRuntime) -> Result<(), Fail> {
-    assert!(rt; 1.0 / level(-0.0)?.number() > 0.0);
+    assert!(rt; 1.0 / number(-0.0)? > 0.0);
     Ok(())
 }
 
@@ -66,10 +63,8 @@ fn steps_round_in_order(rt: HostRuntime) -> Result<(), Fail> {
         (999999.9, 1000000.0, 999999.925),
     ];
     for (state, reading, after) in cases {
-        assert_eq!(rt;
-            Damped.step(&level(state)?, &level(reading)?).number(),
-            after
-        );
+        let stepped = Damped.step(&Level::try_from(state)?, &Level::try_from(reading)?);
+        assert_eq!(rt; stepped.number(), after);
     }
     Ok(())
 }
@@ -86,19 +81,19 @@ fn thrusts_turn_past_a_half(rt: HostRuntime) -> Result<(), Fail> {
         (-1000000.0, Thrust::Pos),
     ];
     for (state, thrust) in cases {
-        assert_eq!(rt; Damped.command(&level(state)?), thrust);
+        assert_eq!(rt; Damped.command(&Level::try_from(state)?), thrust);
     }
     Ok(())
 }
 
 #[test]
 fn thrusts_have_numbers(rt: HostRuntime) {
-    assert_eq!(rt; Thrust::Off.code(), 0);
-    assert_eq!(rt; Thrust::Pos.code(), 1);
-    assert_eq!(rt; Thrust::Neg.code(), 2);
+    assert_eq!(rt; u8::from(Thrust::Off), 0);
+    assert_eq!(rt; u8::from(Thrust::Pos), 1);
+    assert_eq!(rt; u8::from(Thrust::Neg), 2);
     for code in 0..3u8 {
-        assert!(rt; Thrust::from_code(code).is_some());
+        assert!(rt; Thrust::try_from(code).is_ok());
     }
-    assert!(rt; !Thrust::from_code(3).is_some());
-    assert!(rt; !Thrust::from_code(255).is_some());
+    assert_eq!(rt; Thrust::try_from(3), Err(UnknownThrust(3)));
+    assert_eq!(rt; Thrust::try_from(255), Err(UnknownThrust(255)));
 }

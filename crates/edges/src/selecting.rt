@@ -40,10 +40,7 @@ fn mid_values(rt: HostRuntime) {
         MidValue.choose(&[count(4), count(1), count(3), count(2)]),
         3
     );
-    assert_eq!(rt;
-        MidValue.choose(&[count(9), None, count(4), None]),
-        2
-    );
+    assert_eq!(rt; MidValue.choose(&[count(9), None, count(4), None]), 2);
     assert_eq!(rt;
         MidValue.choose(&[count(2147483647), count(-2147483648), count(0)]),
         2
@@ -53,19 +50,16 @@ fn mid_values(rt: HostRuntime) {
 #[test]
 fn mid_values_of_levels(rt: HostRuntime) {
     let levels = [
-        Level::from_f64(0.25),
-        Level::from_f64(-0.0),
-        Level::from_f64(2000000.0),
-        Level::from_f64(-1000000.0),
+        Level::try_from(0.25).ok(),
+        Level::try_from(-0.0).ok(),
+        Level::try_from(2000000.0).ok(),
+        Level::try_from(-1000000.0).ok(),
     ];
     assert_eq!(rt; MidValue.choose(&levels), 1);
 }
 
 fn vote(entries: &[Entry<Count>]) -> Option<i32> {
-    match majority(&entries) {
-        Some(x) => Some(x.value),
-        None => None,
-    }
+    majority(&entries).map(|x| x.value)
 }
 
 // More than half of those present, not of all.
@@ -73,10 +67,7 @@ fn vote(entries: &[Entry<Count>]) -> Option<i32> {
 fn majorities(rt: HostRuntime) {
     assert_eq!(rt; vote(&[]), None);
     assert_eq!(rt; vote(&[None, None]), None);
-    assert_eq!(rt;
-        vote(&[None, count(1), None, None]),
-        Some(1)
-    );
+    assert_eq!(rt; vote(&[None, count(1), None, None]), Some(1));
     assert_eq!(rt; vote(&[count(1), count(1), count(2)]), Some(1));
     assert_eq!(rt; vote(&[count(2), count(1), count(1)]), Some(1));
     assert_eq!(rt; vote(&[count(1), count(2)]), None);

@@ -2,7 +2,8 @@
 use Rattle.std.proofs.Common.{◌≡◌, ℕ, zero, suc, ◌<◌, ◌≤◌, Bool, true, false, cond, not, ◌&&◌, T, ◌⊎◌, List, [], ◌∷◌, length, get_or, sym, refl, ap, subst, inl, inr, arith, Option, Some, None}
 use lib.ListN.{get_or-eq_default}
 use Rattle.std.proofs.lemmas.List.FromFn.{length-map-range_with_len, get_or-map-range_with_len}
-use Rattle.std.proofs.lemmas.Bool.{cases_lt}
+use Rattle.std.proofs.lemmas.Bool.{cases_lt, not-true}
+use Rattle.quorum.proofs.Counts.{is_yes}
 use Rattle.values.specs.Entries.{present, SameEntry, entry_at}
 use Rattle.values.proofs.Meanings.{same_refl}
 use Rattle.protocol.specs.Tables.{table, value_at, Kept, ByBit}
@@ -25,8 +26,7 @@ pub no_yes : (b : Bool) → b ≡ false → T (not b)
 no_yes b e = subst (λ (c : Bool). T (not c)) (sym e) tt
 
 pub yes_no : (b : Bool) → T (not b) → b ≡ false
-yes_no true t = absurd t
-yes_no false t = refl
+yes_no b t = not-true b (is_yes (not b) t)
 
 pub clear_at : (b : Bool) (A B : Type 0) → b ≡ false → ByBit b A B → B
 clear_at b A B e w = subst (λ (c : Bool). ByBit c A B) e w

@@ -3,6 +3,7 @@
 
 ghost use Rattle.std.specs.Prelude.{◌≡◌, true, false, ℕ, ◌<◌, pos, Some, None};
 ghost use Rattle.quorum.specs.Counting.{bit};
+ghost use Rattle.layers.specs.King.{king};
 ghost use Rattle.applications.specs.Wheel.{torque_of};
 ghost use Rattle.worked.specs.Examples.{Worked};
 
@@ -41,15 +42,12 @@ pub fn examples(a: Count, b: Count) -> Answers
     ensures two_faced { (i : ℕ) → i < 3 → bit result.king_two_faced i ≡ true }
     ensures contradicted { (i : ℕ) → i < 3 → bit result.king_contradicted i ≡ false }
 {
-    let three = [Some(a), Some(a), Some(b)];
-    let two = [Some(a), Some(b)];
-    let readings = [
-        Some(Count { value: 7 }),
-        Some(Count { value: -3 }),
-    ];
+    let three: &[Entry<Count>] = &[Some(a), Some(a), Some(b)];
+    let two: &[Entry<Count>] = &[Some(a), Some(b)];
+    let readings = [Some(Count { value: 7 }), Some(Count { value: -3 })];
     Answers {
-        two_to_one: majority(&&three[..]),
-        one_to_one: majority(&&two[..]),
+        two_to_one: majority(&three),
+        one_to_one: majority(&two),
         middle: MidValue.choose(&readings),
         torque_lowest: torque(-2147483648),
         torque_minus_one: torque(-1),
@@ -57,23 +55,24 @@ pub fn examples(a: Count, b: Count) -> Answers
         step_held: Wheel
             .step(&Count { value: 2147483647 }, &Count { value: 1 })
             .value,
-        king_two_faced: PhaseKing.deliver(&Instance {
-            n: 4,
-            f: 1,
-            marks: 8,
-            sender: 3,
-            bit: false,
-            words: &[1, 0, 1],
-        }),
-        king_contradicted: PhaseKing.deliver(&Instance {
-            n: 4,
-            f: 1,
-            marks: 8,
-            sender: 0,
-            bit: false,
-            words: &[1; 76],
-        }),
+        king_two_faced: king_of_four(3, &[1, 0, 1]),
+        king_contradicted: king_of_four(0, &[1; 76]),
     }
+}
+
+// The phase king with four replicas, of which replica 3 may be faulty, and a sender whose bit is no.
+fn king_of_four(sender: usize, words: &[u8]) -> u16
+    requires { sender < 4 }
+    ensures { (i : ℕ) → i < 3 → bit result i ≡ king 4 1 8 sender false words.now i }
+{
+    PhaseKing.deliver(&Instance {
+        n: 4,
+        f: 1,
+        marks: 8,
+        sender,
+        bit: false,
+        words,
+    })
 }
 
 fn torque(state: i32) -> i16

@@ -14,8 +14,13 @@ pub struct Count {
 }
 
 impl fmt::Display for Count {
+    ghost output = { λ c. ⟦<i32 as fmt::Display>⟧.output c.value };
+
+    ghost styled_output = { λ c. ⟦<i32 as fmt::Display>⟧.styled_output c.value };
+
     fn fmt<W: fmt::Write>(&self, f: &mut fmt::Formatter<W>) -> fmt::Result {
-        self.value.fmt(f)
+        let number = self.value;
+        number.fmt(f)
     }
 }
 
@@ -58,8 +63,13 @@ pub struct Torque {
 }
 
 impl fmt::Display for Torque {
+    ghost output = { λ t. ⟦<i16 as fmt::Display>⟧.output t.value };
+
+    ghost styled_output = { λ t. ⟦<i16 as fmt::Display>⟧.styled_output t.value };
+
     fn fmt<W: fmt::Write>(&self, f: &mut fmt::Formatter<W>) -> fmt::Result {
-        self.value.fmt(f)
+        let torque = self.value;
+        torque.fmt(f)
     }
 }
 

@@ -112,10 +112,12 @@ fn show_cycle(
     show_vote(rt, outcome.vote)
 }
 
-// Runs a cycle for each line of the input.
+// Runs a cycle for each line of the input; the number is counted beside, since a range that is zipped would end where this stays at its top.
 fn run_cycles(rt: &HostRuntime, processors: &mut [Processor]) -> Result<()> {
-    for (line, number) in rt.lines(rt.alloc()).zip(1u64..) {
+    let mut number: u32 = 0;
+    for line in rt.lines(rt.alloc()) {
         let readings = readings_of(line?.as_str())?;
+        number = number.saturating_add(1);
         println!(rt; "cycle {number}")?;
         show_cycle(rt, processors, &readings)?;
     }

@@ -11,13 +11,10 @@ use Rattle.cluster.specs.declared.Committed.{Committed}
 use Rattle.cluster.specs.declared.Refused.{Refused}
 use Rattle.cluster.specs.declared.stages.Rest.{Rest}
 
--- the calls from intake to agree, the latest first
-abbrev pub deciding : {R S C : Type 0} → List (Option R) → List (Option R) → List ℕ → Tables R S → History R S C
-deciding entries claims words t = agree (sizes t) words ∷ filter (sizes t) claims ∷ intake (sizes t) entries ∷ []
-
 -- the calls of a whole cycle, the latest first
 abbrev pub flying : {R S C : Type 0} → Rule R → List (Option R) → List (Option R) → List ℕ → List (Option S) → List (Option C) → Tables R S → History R S C
-flying rule entries claims words states commands t = commit (sizes t) states commands ∷ select (sizes t) rule ∷ deciding entries claims words t
+flying rule entries claims words states commands t =
+    commit (sizes t) states commands ∷ select (sizes t) rule ∷ agree (sizes t) words ∷ filter (sizes t) claims ∷ intake (sizes t) entries ∷ []
 
 module _ {P L R S C : Type 0} (w : Semantics P L R S C) where
   -- Whatever run came to q goes on through these calls, the latest first, and sound replicas agree with the model.

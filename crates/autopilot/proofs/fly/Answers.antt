@@ -46,7 +46,7 @@ returns-in_err-committed g c =
     let decided = goes_on _ (λ z. agree z a.words.now) filtered (same_sizes _ _ refl refl c.agree.auto.agreed refl refl c.agree.auto.yes refl c.agree.auto.candidates refl) (rw (stood _ c.agree.result c.map_err-2.ensures.cases c.in_ok-decided.was) at c.agree.ensures) in
     let picked = goes_on _ (λ z. select z (g.Z.Selection.choice a.selection.now)) decided (same_sizes _ _ refl refl refl refl refl refl refl refl c.select.auto.chosen) (rw (stood _ c.select.result c.map_err-3.ensures.cases c.in_ok-picked.was) at c.select.ensures) in
     let q = turned _ c.commit.result c.map_err-4.ensures.cases c.in_err-committed.was in
-    rw (p.1, p.2) (leaves _ ([]) (λ z. commit z a.states.now a.commands.now) picked (rw q.1 at c.commit.ensures) q.2)
+    rw (p.1, p.2) (leaves _ [] (λ z. commit z a.states.now a.commands.now) picked (rw q.1 at c.commit.ensures) q.2)
 
 pub returns : goal.returns
 returns g c =

@@ -112,13 +112,12 @@ impl Said {
 
 // Flies the cycles, and tells the last vote.
 fn run(
-    made: Cluster<Wheel, PhaseKing, Rest>,
+    mut cluster: Cluster<Wheel, PhaseKing, Rest>,
     cycles: usize,
     entries: &[Entry<Count>],
     said: &Said,
     tray: &mut Tray,
 ) -> anyhow::Result<Entry<Torque>> {
-    let mut cluster = made;
     let mut vote = None;
     for _ in 0..cycles {
         let flown = fly(
@@ -157,10 +156,10 @@ fn load_of(rt: &HostRuntime) -> anyhow::Result<Load> {
     ) else {
         return Err(anyhow!("usage: cycles REPLICAS FAULTY SENSORS CYCLES"));
     };
-    let n = n.as_str().parse::<usize>()?;
-    let f = f.as_str().parse::<usize>()?;
-    let sensors = sensors.as_str().parse::<usize>()?;
-    let cycles = cycles.as_str().parse::<usize>()?;
+    let n = n.parse::<usize>()?;
+    let f = f.parse::<usize>()?;
+    let sensors = sensors.parse::<usize>()?;
+    let cycles = cycles.parse::<usize>()?;
     if n > 16 || f > 5 || 3 * f >= n || sensors > 4 {
         return Err(anyhow!(
             "at most 16 replicas, fewer than a third of them faulty, and 4 sensors"
@@ -206,11 +205,8 @@ fn main(rt: HostRuntime) -> anyhow::Result<()> {
     let said = Said::new(heap, load)?;
     let cluster = made(load, &mut tray)?;
     let cycles = load.cycles;
-    match run(cluster, cycles, entries.as_slice(), &said, &mut tray)? {
-        Some(vote) => {
-            let torque = vote.value;
-            println!(rt; "{cycles} cycles, the last vote {torque}")?;
-        }
+    match run(cluster, cycles, &entries, &said, &mut tray)? {
+        Some(Torque { value }) => println!(rt; "{cycles} cycles, the last vote {value}")?,
         None => println!(rt; "{cycles} cycles, no vote")?,
     }
     Ok(())

@@ -6,7 +6,8 @@ ghost use Rattle.std.specs.Prelude.{◌*◌, ◌<◌, ◌≤◌};
 use anyhow::anyhow;
 use applications::wheel::{Count, Torque, Wheel};
 use autopilot::fly;
-use cluster::{Committed, Refused, Rest, Unmade};
+use cluster::Cluster;
+use cluster::stages::Rest;
 use layers::king::PhaseKing;
 use layers::layer::Layer;
 use selections::mid_value::MidValue;
@@ -71,24 +72,19 @@ fn reading(load: Load, i: usize, k: usize) -> Count {
 
 // The sensors' entries, in the order of replicas and then of sensors.
 fn entries_of(heap: Global, load: Load) -> Result<Vec<Entry<Count>>, AllocError> {
-    let mut entries = Vec::new(heap);
-    for i in 0..load.n {
-        for k in 0..load.sensors {
-            entries.push(Some(reading(load, i, k)))?;
-        }
-    }
-    Ok(entries)
+    (0..load.n)
+        .flat_map(|i| (0..load.sensors).map(move |k| Some(reading(load, i, k))))
+        .collect(heap)
 }
 
-// Words that look random, of which about half say something.
+// Words that look random, of which about half say something; `bench` has the same, since the two programs share no library.
 fn noise(heap: Global, size: usize) -> Result<Vec<u8>, AllocError> {
-    let mut words = Vec::new(heap);
-    let mut seed: u32 = 1;
-    for _ in 0..size {
-        seed = seed.wrapping_mul(1664525).wrapping_add(1013904223);
-        words.push((seed >> 29) as u8 / 2)?;
-    }
-    Ok(words)
+    (0..size)
+        .scan(1, |seed: &mut u32, _| {
+            *seed = seed.wrapping_mul(1664525).wrapping_add(1013904223);
+            Some((*seed >> 29) as u8 / 2)
+        })
+        .collect(heap)
 }
 
 // What faulty replicas say in a cycle.
@@ -116,44 +112,35 @@ impl Said {
 
 // Flies the cycles, and tells the last vote.
 fn run(
-    made: Rest<Wheel, PhaseKing>,
+    mut cluster: Cluster<Wheel, PhaseKing, Rest>,
     cycles: usize,
     entries: &[Entry<Count>],
     said: &Said,
     tray: &mut Tray,
 ) -> anyhow::Result<Entry<Torque>> {
-    let mut cluster = made;
     let mut vote = None;
     for _ in 0..cycles {
         let flown = fly(
             cluster,
             &MidValue,
             entries,
-            said.claims.as_slice(),
-            said.words.as_slice(),
-            said.states.as_slice(),
-            said.commands.as_slice(),
-            tray.state.as_mut_slice(),
-            tray.own.as_mut_slice(),
-            tray.agreed.as_mut_slice(),
-            tray.run.as_mut_slice(),
-            tray.accept.as_mut_slice(),
-            tray.yes.as_mut_slice(),
-            tray.heard.as_mut_slice(),
-            tray.candidates.as_mut_slice(),
-            tray.chosen.as_mut_slice(),
-        );
-        match flown {
-            Ok(committed) => {
-                let Committed {
-                    cluster: next,
-                    outcome,
-                } = committed;
-                cluster = next;
-                vote = outcome.vote;
-            }
-            Err(_) => return Err(anyhow!("a cycle was refused")),
-        }
+            &said.claims,
+            &said.words,
+            &said.states,
+            &said.commands,
+            &mut tray.state,
+            &mut tray.own,
+            &mut tray.agreed,
+            &mut tray.run,
+            &mut tray.accept,
+            &mut tray.yes,
+            &mut tray.heard,
+            &mut tray.candidates,
+            &mut tray.chosen,
+        )
+        .map_err(|_| anyhow!("a cycle was refused"))?;
+        cluster = flown.cluster;
+        vote = flown.outcome.vote;
     }
     Ok(vote)
 }
@@ -169,10 +156,10 @@ fn load_of(rt: &HostRuntime) -> anyhow::Result<Load> {
     ) else {
         return Err(anyhow!("usage: cycles REPLICAS FAULTY SENSORS CYCLES"));
     };
-    let n = n.as_str().parse::<usize>()?;
-    let f = f.as_str().parse::<usize>()?;
-    let sensors = sensors.as_str().parse::<usize>()?;
-    let cycles = cycles.as_str().parse::<usize>()?;
+    let n = n.parse::<usize>()?;
+    let f = f.parse::<usize>()?;
+    let sensors = sensors.parse::<usize>()?;
+    let cycles = cycles.parse::<usize>()?;
     if n > 16 || f > 5 || 3 * f >= n || sensors > 4 {
         return Err(anyhow!(
             "at most 16 replicas, fewer than a third of them faulty, and 4 sensors"
@@ -187,9 +174,9 @@ fn load_of(rt: &HostRuntime) -> anyhow::Result<Load> {
 }
 
 // A cluster whose last f replicas are faulty.
-fn made(load: Load, tray: &mut Tray) -> anyhow::Result<Rest<Wheel, PhaseKing>> {
+fn made(load: Load, tray: &mut Tray) -> anyhow::Result<Cluster<Wheel, PhaseKing, Rest>> {
     let marks = (u16::MAX >> (16 - load.n)) & !(u16::MAX >> (16 - (load.n - load.f)));
-    let made = Rest::make(
+    Cluster::make(
         Wheel,
         PhaseKing,
         load.n,
@@ -197,20 +184,17 @@ fn made(load: Load, tray: &mut Tray) -> anyhow::Result<Rest<Wheel, PhaseKing>> {
         load.sensors,
         marks,
         Count { value: 0 },
-        tray.state.as_mut_slice(),
-        tray.own.as_slice(),
-        tray.agreed.as_slice(),
-        tray.run.as_slice(),
-        tray.accept.as_slice(),
-        tray.yes.as_slice(),
-        tray.heard.as_slice(),
-        tray.candidates.as_slice(),
-        tray.chosen.as_slice(),
-    );
-    match made {
-        Ok(cluster) => Ok(cluster),
-        Err(_) => Err(anyhow!("making was refused")),
-    }
+        &mut tray.state,
+        &tray.own,
+        &tray.agreed,
+        &tray.run,
+        &tray.accept,
+        &tray.yes,
+        &tray.heard,
+        &tray.candidates,
+        &tray.chosen,
+    )
+    .map_err(|_| anyhow!("making was refused"))
 }
 
 fn main(rt: HostRuntime) -> anyhow::Result<()> {
@@ -221,11 +205,8 @@ fn main(rt: HostRuntime) -> anyhow::Result<()> {
     let said = Said::new(heap, load)?;
     let cluster = made(load, &mut tray)?;
     let cycles = load.cycles;
-    match run(cluster, cycles, entries.as_slice(), &said, &mut tray)? {
-        Some(vote) => {
-            let torque = vote.value;
-            println!(rt; "{cycles} cycles, the last vote {torque}")?;
-        }
+    match run(cluster, cycles, &entries, &said, &mut tray)? {
+        Some(Torque { value }) => println!(rt; "{cycles} cycles, the last vote {value}")?,
         None => println!(rt; "{cycles} cycles, no vote")?,
     }
     Ok(())

@@ -56,7 +56,7 @@ impl Ordered for Count {
     }
 }
 
-// The command.
+// The command. Its impls are written out beside those of `Count`, since the gate refuses impls by a macro of the repository's own.
 #[derive(Clone, Copy, PartialEq, Eq, PartialOrd, Ord, Debug)]
 pub struct Torque {
     pub value: i16,

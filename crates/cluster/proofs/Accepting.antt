@@ -16,10 +16,6 @@ cell_within n sensors i j k hi hj hk =
     let row : i * n + j < n * n = mul-add-lt i n j n hi hj in
     within (n * n) sensors (i * n + j) k row hk
 
--- the hearer of a place is one of the replicas
-pub hearer_below : (n sensors p : ℕ) → 0 < n → 0 < sensors → p < n * n * sensors → p / sensors / n < n
-hearer_below n sensors p hn hs h = div_below (p / sensors) n n hn (div_below p sensors (n * n) hs h)
-
 pub heard_placed : {R : Type 0} (n sensors marks : ℕ) (own claims before after : List (Option R)) → Written (n * n * sensors) (deaf_at n sensors marks) (Hears n sensors marks own claims) before after
     → (i j k : ℕ) → i < n → j < n → k < sensors → ByBit (bit marks i) (Kept before after (cell n sensors i j k)) (entry_at after (cell n sensors i j k) ≡ heard_from n sensors marks own claims i j k)
 heard_placed n sensors marks own claims before after w i j k hi hj hk =

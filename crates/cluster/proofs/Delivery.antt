@@ -23,13 +23,6 @@ module _ (delivered : Delivers) (size n sensors marks : ℕ) (accept : List Bool
       placed (MaskOf n (got delivered size n sensors marks accept words i k)) (MaskOf n (got delivered size n sensors marks accept words i k) (get_or after p 0)) before after p (bit marks i) (λ _ h. h 0)
       (subst B (mod-mul-add i sensors k hk) (subst A (div-mul-add i sensors k hk) (w p (within n sensors i k hi hk))))
 
-  small : (b : Bool) (test : ℕ → Bool) (p : ℕ) → b ≡ false → WrittenAt b (MaskOf n test) before after p → get_or after p 0 < 2 ^ n
-  small true test p e h = absurd (true≢false e)
-  small false test p e h = (h 0).below
-
-  pub yes_below : (p : ℕ) → p < n * sensors → faulty_at marks sensors p ≡ false → get_or after p 0 < 2 ^ n
-  yes_below p h e = small (faulty_at marks sensors p) (got delivered size n sensors marks accept words (p / sensors) (p % sensors)) p e (w p h)
-
 pub agreed_placed : {R M : Type 0} (means : R → M) (alike : R → R → Bool) (n f sensors marks : ℕ) (own : List (Option R)) (accept : List Bool) (masks : List ℕ) (heard before after : List (Option R))
     → Written (n * sensors) (faulty_at marks sensors) (AgreesOn means alike n f sensors own accept masks heard) before after → (i k : ℕ) → i < n → k < sensors
     → ByBit (bit marks i) (Kept before after (i * sensors + k)) (SameEntry means (entry_at after (i * sensors + k)) (agrees_on alike n f (bit (get_or masks (i * sensors + k) 0)) (get_or accept (i * sensors + k) false) (entry_at own (i * sensors + k)) (heard_row n sensors heard i k)))

@@ -68,7 +68,7 @@ impl<'a, L: Layer> Instances<'a, L> {
         self.layer.deliver(&instance)
     }
 
-    // What is delivered in each instance.
+    // What is delivered in each instance, of which there are at most 64: fixed memory, since the engine has no heap.
     fn deliver_all(&self) -> [u16; 64]
         ensures { let p = self.now.parameters in (m i : ℕ) → m < p.n * p.sensors → i < p.n → Sound p.marks i → bit_at (slice_index result m) i ≡ gets (L.Layer.delivered self.now.layer.now p.n p.f p.marks) (L.Layer.size self.now.layer.now p.n p.f) p.n p.sensors p.marks self.now.accept.now self.now.words.now m i }
     {

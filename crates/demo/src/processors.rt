@@ -82,7 +82,7 @@ fn take_all(processors: &mut [Processor], reading: Entry<Count>)
     }
 }
 
-// What a cycle ends with.
+// What a cycle ends with; the chosen sensor as the selection answers it, `NO_SENSOR` for none.
 #[derive(Clone, Copy)]
 pub struct Outcome {
     pub chosen: u8,

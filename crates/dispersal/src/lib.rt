@@ -18,7 +18,7 @@ mod sent;
 mod states;
 mod turns;
 
-// What commit answers: the vote, the chosen sensor and the candidates of the lowest sound replica, and how many sound replicas took a dispersed state.
+// What commit answers: the vote, the chosen sensor and the candidates of the lowest sound replica, and how many sound replicas took a dispersed state. A chosen sensor is as the table has it, `NO_SENSOR` for none.
 #[derive(Clone, Copy)]
 pub struct Outcome<C> {
     pub vote: Entry<C>,

@@ -20,7 +20,7 @@ pub struct Tally {
     pub no: usize,
 }
 
-// The bit that a replica took from the proposals, and whether enough proposed it to keep it against the king.
+// The bit that a replica took from the proposals, and whether enough proposed it to keep it against the king: no option, since a king gives its bit either way.
 #[derive(Clone, Copy, Default)]
 pub struct Taken {
     pub bit: bool,

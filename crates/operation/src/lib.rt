@@ -32,7 +32,7 @@ pub enum AnyStage<A, L> {
     Chosen(Cluster<A, L, Chosen>),
 }
 
-// What a call answered.
+// What a call answered: one enum, since a `Result` of an `Option` of the two that tell something reads no plainer.
 #[derive(Clone, Copy)]
 pub enum Answer<S, C> {
     Nothing,

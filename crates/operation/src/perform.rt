@@ -1,4 +1,4 @@
-// A list of calls, performed in its order.
+// A list of calls, performed in its order. Each table is a parameter of its own, by a rule of the project.
 ghost use Rattle.protocol.specs.Setup.{lent, sizes};
 ghost use Rattle.protocol.specs.Clusters.{semantics};
 ghost use Rattle.operation.specs.Calls.{asked, standing, Goes, Performs, OperateAnswers};

@@ -84,12 +84,6 @@ granted_input false input h = absurd (granted≢refused 7 h)
 pub granted_fits : (n sensors : ℕ) (z : Sizes) (input : Bool) → granted ≡ stage_verdict (fits n sensors z) input → Fits n sensors z
 granted_fits n sensors z input h = fits_each n sensors z (granted_fit (fits n sensors z) input h)
 
--- and what comes in is as long as asked
-pub granted_long : (fit input : Bool) (a b a' b' : ℕ) → input ≡ eqb a a' && eqb b b' → granted ≡ stage_verdict fit input → (a ≡ a') × (b ≡ b')
-granted_long fit input a b a' b' e h =
-    let both = and_parts _ _ (sym e ∙ granted_input fit input h) in
-    (eqb-true _ _ both.0, eqb-true _ _ both.1)
-
 -- where a look is granted, its tables fit and there is such a replica
 pub granted_look : (n sensors : ℕ) (z : Sizes) (marks i : ℕ) → granted ≡ look_verdict (fits n sensors z) n marks i → Fits n sensors z × (i < n)
 granted_look n sensors z marks i h = by (fits n sensors z) (ltb i n) refl refl h where

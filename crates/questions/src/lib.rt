@@ -37,6 +37,7 @@ pub struct Sizes {
 }
 
 impl Sizes {
+    // Of the tables, each a parameter of its own, by a rule of the project.
     pub fn of<R, S>(
         state: &[S],
         own: &[Entry<R>],

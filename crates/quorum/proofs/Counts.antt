@@ -40,10 +40,6 @@ bool_same false b f g = sym (is_no b g)
 abbrev pub one : Bool → ℕ
 one b = cond b 1 0
 
-pub one_le : (a : Bool) → one a ≤ 1
-one_le true = omega arith
-one_le false = omega arith
-
 one_mono : (a b : Bool) → (T a → T b) → one a ≤ one b
 one_mono true true h = omega arith
 one_mono true false h = absurd (h tt)
@@ -127,15 +123,6 @@ count_pos (suc n) p i l t =
 pub count_none : (n : ℕ) (p : ℕ → Bool) → ((i : ℕ) → i < n → T (p i) → ⊥) → count n p ≡ 0
 count_none n p h =
     elim (eq-zero-or-pos (count n p)) [ inl e ↦ e | inr q ↦ absurd (let w = count_some n p q in h w.0 w.1 w.2) ]
-
--- where all are counted, each passes
-pub count_each : (n : ℕ) (p : ℕ → Bool) → count n p ≡ n → (i : ℕ) → i < n → p i ≡ true
-count_each n p all i h = at (p i) refl
-  where
-    at : (b : Bool) → p i ≡ b → p i ≡ true
-    at true e = e
-    at false e =
-        absurd (omega (arith, count_not n p, count_pos n (λ j. not (p j)) i h (yes _ (not_from_false (p i) e))))
 
 -- ---- a loop that counts
 

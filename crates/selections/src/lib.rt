@@ -9,7 +9,7 @@ pub mod mid_value;
 
 use values::{Entry, Value};
 
-// The answer that stands for no sensor.
+// The answer that stands for no sensor: a number and no option, by the rule of the tables, which hold it.
 pub const NO_SENSOR: u8 = 255;
 
 // Chooses one of the candidates, which are the sensors whose entries are present.

@@ -6,7 +6,7 @@ ghost use Rattle.values.specs.Order.{BothWays};
 
 pub mod entries;
 
-// A reading, a state or a command. Two values are the same exactly when they mean the same.
+// A reading, a state or a command. Two values are the same exactly when they mean the same; `PartialEq` promises no meaning, so `same` is a method of its own.
 pub trait Value: Copy {
     ghost Meaning: { Type 0 };
 
@@ -20,7 +20,7 @@ pub trait Value: Copy {
     ghost sameness: { (x y : Self) → Decides (alike x y) (means x ≡ means y) };
 }
 
-// A reading with a total order: `leq x y` says that x is at most y.
+// A reading with a total order: `leq x y` says that x is at most y. By a rule of the project it is no `Ord`, and its comparison promises what both ways mean.
 pub trait Ordered: Value {
     ghost leq: { Self → Self → Bool };
 

@@ -59,6 +59,7 @@ impl TryFrom<f64> for Level {
     }
 }
 
+// Levels are compared by their numbers: a derive would say nothing of their meaning.
 impl Value for Level {
     ghost Meaning = { Float };
 

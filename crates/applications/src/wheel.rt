@@ -56,8 +56,8 @@ impl Ordered for Count {
     }
 }
 
-// The command. Its impls are written out beside those of `Count`, since the gate refuses impls by a macro of the repository's own.
-#[derive(Clone, Copy, PartialEq, Eq, PartialOrd, Ord, Debug)]
+// The command: a struct of its own, since one that is generic in its integer would need that comparison's laws as a bound, and be no plainer.
+#[derive(Clone, Copy, PartialEq, Eq, Debug)]
 pub struct Torque {
     pub value: i16,
 }

@@ -1,5 +1,4 @@
-// A box that makes the engine's calls itself, one by one: a control cycle either commits or is left, and the cluster is at rest again.
-// Each table is a parameter of its own, by a rule of the project.
+// A box that makes the engine's calls itself, one by one: a control cycle either commits or is left, and the cluster is at rest again; each table is a parameter of its own, by a rule of the project.
 #![tactic(auto)]
 
 ghost use Rattle.std.specs.Prelude.{◌≡◌};

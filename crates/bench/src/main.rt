@@ -14,15 +14,14 @@ const INSTANCES: usize = 3000;
 
 const SPARE: usize = 512;
 
-// Words that look random, of which about half say something.
+// Words that look random, of which about half say something; `cycles` has the same, since no library that both know is fit for it.
 fn noise(heap: Global, size: usize) -> Result<Vec<u8>, AllocError> {
-    let mut words = Vec::new(heap);
-    let mut seed: u32 = 1;
-    for _ in 0..size {
-        seed = seed.wrapping_mul(1664525).wrapping_add(1013904223);
-        words.push((seed >> 29) as u8 / 2)?;
-    }
-    Ok(words)
+    (0..size)
+        .scan(1, |seed: &mut u32, _| {
+            *seed = seed.wrapping_mul(1664525).wrapping_add(1013904223);
+            Some((*seed >> 29) as u8 / 2)
+        })
+        .collect(heap)
 }
 
 // Every third replica of the first n is faulty, f of them in all, from another one on in each instance.
@@ -81,14 +80,14 @@ fn main(rt: HostRuntime) -> anyhow::Result<()> {
     let (Some(n), Some(f)) = (args.next(), args.next()) else {
         return Err(anyhow!("usage: bench REPLICAS FAULTY"));
     };
-    let n = n.as_str().parse::<usize>()?;
-    let f = f.as_str().parse::<usize>()?;
+    let n = n.parse::<usize>()?;
+    let f = f.parse::<usize>()?;
     if n > 16 || f > 5 || 3 * f >= n {
         return Err(anyhow!("at most 16 replicas, and fewer than a third of them faulty"));
     }
     let size = PhaseKing.size(n, f);
     let words = noise(rt.alloc(), size.saturating_add(SPARE))?;
-    let (split, lost) = run(n, f, words.as_slice());
+    let (split, lost) = run(n, f, &words);
     println!(rt; "{INSTANCES} instances of {size} bytes, {split} split, {lost} lost")?;
     Ok(())
 }

@@ -39,7 +39,7 @@ fn agree_on<R: Value>(row: &Row<'_, R>, mask: u16, accepted: bool, own: Entry<R>
 
 // What the replicas work their agreed entries out from; no mask of a sound one has a bit from n on.
 #[derive(Drop)]
-struct Grounds<'a, R> {
+struct AgreeInputs<'a, R> {
     heard: &'a Heard<'a, R>,
     own: &'a [Entry<R>],
     accept: &'a [bool],
@@ -49,7 +49,7 @@ struct Grounds<'a, R> {
     ghost masks_fit: { (p : ℕ) → p < heard.now.parameters.n * heard.now.parameters.sensors → faulty_at heard.now.parameters.marks heard.now.parameters.sensors p ≡ false → slice_index yes.now p < 2 ^ heard.now.parameters.n },
 }
 
-impl<'a, R: Value> Grounds<'a, R> {
+impl<'a, R: Value> AgreeInputs<'a, R> {
     // What is agreed on at a sound replica's place.
     fn agreed_at(&self, p: usize) -> Entry<R>
         requires place { p < self.now.heard.now.parameters.n * self.now.heard.now.parameters.sensors }
@@ -124,7 +124,7 @@ impl<A: Application, L: Layer> Cluster<A, L, Filtered> {
         let sizes = Sizes::of(
             state, own, agreed, run, accept, yes, heard, candidates, chosen,
         );
-        if let Err(refusal) = parameters.ask_stage(sizes, true) {
+        if let Err(refusal) = parameters.ask_tables(sizes) {
             return Err(Refused {
                 cluster: self,
                 refusal,
@@ -141,13 +141,13 @@ impl<A: Application, L: Layer> Cluster<A, L, Filtered> {
             parameters,
             entries: heard,
         };
-        let grounds = Grounds {
+        let inputs = AgreeInputs {
             heard: &heard,
             own,
             accept,
             yes,
         };
-        grounds.write_agreed(agreed);
+        inputs.write_agreed(agreed);
         write_candidates(parameters, agreed, candidates);
         Ok(self.at())
     }

@@ -1,4 +1,4 @@
-// Filter: what each sound replica hears from each, and which of its own entries it accepts.
+// Filter: what each sound replica hears from each, and which of its own entries it accepts. That an index is below n each call asks: a type for it would say no more.
 ghost use Rattle.std.specs.Prelude.{◌≡◌, ◌+◌, ◌-◌, ◌*◌, ◌/◌, ◌%◌, ◌<◌, ◌≤◌, length};
 ghost use Rattle.protocol.specs.Clusters.{semantics};
 ghost use Rattle.protocol.specs.Setup.{lent};
@@ -16,59 +16,48 @@ use questions::{Parameters, Sizes};
 use values::entries::{entry_at, matches};
 use values::{Application, Entry, Value};
 
-// What i hears from j about sensor k.
-fn hear<R: Value>(
+// What the replicas tell one another: the sound their own entries, and the faulty their claims.
+#[derive(Drop)]
+struct Told<'a, R> {
     parameters: Parameters,
-    i: usize,
-    j: usize,
-    k: usize,
-    own: &[Entry<R>],
-    claims: &[Entry<R>],
-) -> Entry<R>
-    requires hearer { i < parameters.n }
-    requires speaker { j < parameters.n }
-    requires sensor { k < parameters.sensors }
-    ensures { result ≡ heard_from parameters.n parameters.sensors parameters.marks own.now claims.now i j k }
-{
-    let Parameters { n, sensors, .. } = parameters;
-    if parameters.is_sound(j) {
-        entry_at(own, j * sensors + k)
-    } else {
-        entry_at(claims, (j * n + i) * sensors + k)
+    own: &'a [Entry<R>],
+    claims: &'a [Entry<R>],
+}
+
+impl<'a, R: Value> Told<'a, R> {
+    // What i hears from j about sensor k.
+    fn heard(&self, i: usize, j: usize, k: usize) -> Entry<R>
+        requires hearer { i < self.now.parameters.n }
+        requires speaker { j < self.now.parameters.n }
+        requires sensor { k < self.now.parameters.sensors }
+        ensures { let p = self.now.parameters in result ≡ heard_from p.n p.sensors p.marks self.now.own.now self.now.claims.now i j k }
+    {
+        let Parameters { n, sensors, .. } = self.parameters;
+        if self.parameters.is_sound(j) {
+            entry_at(self.own, j * sensors + k)
+        } else {
+            entry_at(self.claims, (j * n + i) * sensors + k)
+        }
     }
-}
 
-// What the replica of a place hears there.
-fn hear_at<R: Value>(
-    parameters: Parameters,
-    p: usize,
-    own: &[Entry<R>],
-    claims: &[Entry<R>],
-) -> Entry<R>
-    requires { p < parameters.n * parameters.n * parameters.sensors }
-    ensures { Hears parameters.n parameters.sensors parameters.marks own.now claims.now p result }
-{
-    let Parameters { n, sensors, .. } = parameters;
-    let row = p / sensors;
-    hear(parameters, row / n, row % n, p % sensors, own, claims)
-}
+    // What the replica of a place hears there.
+    fn heard_at(&self, p: usize) -> Entry<R>
+        requires { p < self.now.parameters.n * self.now.parameters.n * self.now.parameters.sensors }
+        ensures { let q = self.now.parameters in Hears q.n q.sensors q.marks self.now.own.now self.now.claims.now p result }
+    {
+        let Parameters { n, sensors, .. } = self.parameters;
+        let row = p / sensors;
+        self.heard(row / n, row % n, p % sensors)
+    }
 
-// Writes heard at the places of the sound replicas.
-fn write_heard<R: Value>(
-    parameters: Parameters,
-    own: &[Entry<R>],
-    claims: &[Entry<R>],
-    heard: &mut [Entry<R>],
-)
-    requires { length heard.old ≡ parameters.n * parameters.n * parameters.sensors }
-    ensures { Written (parameters.n * parameters.n * parameters.sensors) (deaf_at parameters.n parameters.sensors parameters.marks) (Hears parameters.n parameters.sensors parameters.marks own.now claims.now) heard.old heard.new }
-{
-    write_sound(
-        parameters,
-        parameters.sensors * parameters.n,
-        heard,
-        |p| hear_at(parameters, p, own, claims),
-    );
+    // Writes heard at the places of the sound replicas.
+    fn write_heard(&self, heard: &mut [Entry<R>])
+        requires { length heard.old ≡ self.now.parameters.n * self.now.parameters.n * self.now.parameters.sensors }
+        ensures { let q = self.now.parameters in Written (q.n * q.n * q.sensors) (deaf_at q.n q.sensors q.marks) (Hears q.n q.sensors q.marks self.now.own.now self.now.claims.now) heard.old heard.new }
+    {
+        let Parameters { n, sensors, .. } = self.parameters;
+        write_sound(self.parameters, sensors * n, heard, |p| self.heard_at(p));
+    }
 }
 
 // Whether an own entry is accepted, by what was heard of its sensor.
@@ -127,7 +116,12 @@ impl<A: Application, L: Layer> Cluster<A, L, TakenIn> {
                 refusal,
             });
         }
-        write_heard(parameters, own, claims, heard);
+        let told = Told {
+            parameters,
+            own,
+            claims,
+        };
+        told.write_heard(heard);
         let heard = Heard {
             parameters,
             entries: heard,

@@ -29,13 +29,10 @@ fn write_own<R: Value>(parameters: Parameters, entries: &[Entry<R>], own: &mut [
 }
 
 // What the application makes of a state by an entry, missing where the entry is.
-fn run_of<A: Application>(app: &A, state: &A::State, entry: &Entry<A::Reading>) -> Entry<A::State>
-    ensures { SameEntry A.State.Value.means result (stepped_by (A.Application.stepped app.now) state.now entry.now) }
+fn run_of<A: Application>(app: &A, state: &A::State, entry: Entry<A::Reading>) -> Entry<A::State>
+    ensures { SameEntry A.State.Value.means result (stepped_by (A.Application.stepped app.now) state.now entry) }
 {
-    match entry {
-        Some(x) => Some(app.step(state, x)),
-        None => None,
-    }
+    entry.map(|x| app.step(state, &x))
 }
 
 // Writes run at the places of the sound replicas whose entry is present; no other place is written, so the loop is its own.
@@ -53,7 +50,7 @@ fn write_run<A: Application>(
     for p in 0..run.len() {
         let i = p / parameters.sensors;
         if parameters.is_sound(i) {
-            if let Some(next) = run_of(app, &state[i], &entries[p]) {
+            if let Some(next) = run_of(app, &state[i], entries[p]) {
                 run[p] = next;
             }
         }

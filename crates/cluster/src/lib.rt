@@ -1,5 +1,4 @@
-// The cluster: a type for each stage, and the calls that lead from one to the next.
-// Each table is a parameter of its own, by a rule of the project: a stage borrows for writing only those that it writes.
+// The cluster: a type for each stage, and the calls that lead from one to the next; each table is a parameter of its own, by a rule of the project.
 #![tactic(auto)]
 
 use dispersal::Outcome;

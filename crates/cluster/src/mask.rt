@@ -1,4 +1,4 @@
-// Masks made of a test's answers.
+// Masks made of a test's answers. The layers' own is apart: across a crate this would be public, and refuse what a `requires` rules out.
 ghost use Rattle.std.specs.Prelude.{ℕ, ◌<◌, ◌≤◌};
 ghost use Rattle.cluster.specs.Writing.{Masked};
 

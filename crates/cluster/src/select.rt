@@ -1,4 +1,4 @@
-// Select: each sound replica chooses one of its candidates.
+// Select: each sound replica chooses one of its candidates. That an index is below n each call asks: a type for it would say no more.
 ghost use Rattle.std.specs.Prelude.{◌≡◌, ◌+◌, ◌*◌, ◌<◌, ◌≤◌, length};
 ghost use Rattle.quorum.specs.Counting.{bit};
 ghost use Rattle.protocol.specs.Clusters.{semantics};
@@ -77,7 +77,7 @@ impl<A: Application, L: Layer> Cluster<A, L, Agreed> {
         let sizes = Sizes::of(
             state, own, agreed, run, accept, yes, heard, candidates, chosen,
         );
-        if let Err(refusal) = parameters.ask_stage(sizes, true) {
+        if let Err(refusal) = parameters.ask_tables(sizes) {
             return Err(Refused {
                 cluster: self,
                 refusal,

@@ -77,7 +77,7 @@ fn entries_of(heap: Global, load: Load) -> Result<Vec<Entry<Count>>, AllocError>
         .collect(heap)
 }
 
-// Words that look random, of which about half say something; `bench` has the same, since the two programs share no library.
+// Words that look random, of which about half say something; `bench` has the same, since no library that both know is fit for it.
 fn noise(heap: Global, size: usize) -> Result<Vec<u8>, AllocError> {
     (0..size)
         .scan(1, |seed: &mut u32, _| {
@@ -206,7 +206,7 @@ fn main(rt: HostRuntime) -> anyhow::Result<()> {
     let cluster = made(load, &mut tray)?;
     let cycles = load.cycles;
     match run(cluster, cycles, &entries, &said, &mut tray)? {
-        Some(Torque { value }) => println!(rt; "{cycles} cycles, the last vote {value}")?,
+        Some(vote) => println!(rt; "{cycles} cycles, the last vote {vote}")?,
         None => println!(rt; "{cycles} cycles, no vote")?,
     }
     Ok(())

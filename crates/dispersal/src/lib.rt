@@ -27,8 +27,7 @@ pub struct Outcome<C> {
     pub dispersed: usize,
 }
 
-// Closes a cycle: the sound replicas' states go on, and what they then command is voted on. What faulty j says to i of its state stands at place j * n + i of `states`.
-// 'x is named since the checker asks for one lifetime of all that a view borrows; callers need not name it.
+// Closes a cycle: what faulty j says to i of its state stands at place j * n + i of `states`; each table is a parameter by a rule of the project, and 'x is there as a view borrows at one lifetime.
 pub fn close<'x, A: Application>(
     parameters: &Parameters,
     app: &'x A,

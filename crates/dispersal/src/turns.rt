@@ -1,4 +1,4 @@
-// The turns of the replicas.
+// The turns of the replicas. That an index is below n each call asks: a type for it would say no more.
 ghost use Rattle.std.specs.Prelude.{◌≡◌, ◌*◌, ◌<◌, length};
 ghost use Rattle.protocol.specs.Turns.{turn_at};
 

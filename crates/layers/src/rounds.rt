@@ -1,11 +1,11 @@
-// The rounds of a phase: votes, proposals and the king's round.
+// The rounds of a phase: votes, proposals and the king's round. That an index is below n each call asks: a type for it would say no more.
 ghost use Rattle.std.specs.Prelude.{◌≡◌, ℕ, ◌+◌, ◌*◌, ◌<◌, ◌≤◌, length, slice_index_or};
 ghost use Rattle.layers.specs.King.{heard, tally, proposal, phase};
 ghost use Rattle.layers.specs.Views.{given, bits_of, said_of, taken_at, settled_to, counted};
 
 use crate::layer::Instance;
 use crate::phase::Phase;
-use crate::said::{Said, Taken, Tally, Voice};
+use crate::said::{Message, Said, Taken, Tally};
 use crate::table::fill;
 use crate::words::byte_at;
 use quorum::is_set;
@@ -26,15 +26,15 @@ impl Instance<'_> {
     }
 
     // What i hears from all in that round, each saying what it has in the table.
-    fn tally<V: Voice>(&self, at: usize, table: &[V], i: usize) -> Tally
+    fn tally<V: Message>(&self, at: usize, table: &[V], i: usize) -> Tally
         requires start { at ≤ 65280 }
         requires receiver { i < self.now.n }
         requires speakers { self.now.n ≤ length table.now }
         ensures { counted result ≡ tally (given self.now) at (λ j. V.aloud (slice_index_or table.now j V.absent)) i }
     {
         let mut tally = Tally::default();
-        for (j, voice) in table[..self.n].iter().enumerate() {
-            tally = tally.with(self.heard(at, voice.say(), i, j));
+        for (j, message) in table[..self.n].iter().enumerate() {
+            tally = tally.with(self.heard(at, message.say(), i, j));
         }
         tally
     }

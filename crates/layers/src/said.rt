@@ -28,7 +28,7 @@ pub struct Taken {
 }
 
 // What a replica has and says to all in a round; `From` would promise a relation where a tally needs a function.
-pub trait Voice: Copy {
+pub trait Message: Copy {
     // what it says
     ghost aloud: { Self → Said };
 
@@ -40,7 +40,7 @@ pub trait Voice: Copy {
 }
 
 // A bit, as a vote says it.
-impl Voice for bool {
+impl Message for bool {
     ghost aloud = { bit_aloud };
 
     ghost absent = { false };
@@ -51,7 +51,7 @@ impl Voice for bool {
 }
 
 // A proposal, said as it is.
-impl Voice for Said {
+impl Message for Said {
     ghost aloud = { λ s. s };
 
     ghost absent = { Silent };

@@ -11,7 +11,7 @@ use protocol::never_part;
 use selections::Selection;
 use values::{Application, Entry, Value};
 
-// One call on a cluster at whichever stage.
+// One call on a cluster at whichever stage: a `match`, since stages and calls are closed, and a table of functions no plainer.
 fn turn<A: Application, L: Layer, Z: Selection<A::Reading>>(
     from: Progress<A, L, A::State, A::Command>,
     call: &Call<'_, A::Reading, A::State, A::Command, Z>,

@@ -1,6 +1,4 @@
-// One call on a cluster at each stage: a call out of turn is passed over.
-// A function for each stage, as each takes another call: one match over stage and call would pass forty lines.
-// Each table is a parameter of its own, by a rule of the project.
+// One call on a cluster at each stage, a function for each, since one match over stage and call would pass forty lines; each table is a parameter of its own, by a rule of the project.
 ghost use Rattle.protocol.specs.Setup.{lent, sizes, rest, taken_in, filtered, agreed as agreement, chosen as choice};
 ghost use Rattle.protocol.specs.Clusters.{semantics};
 ghost use Rattle.cluster.specs.Answers.{kept_by, here};

@@ -1,6 +1,7 @@
 -- What more than half of the present entries carry: there is one at most, and a linear vote finds it.
-use Rattle.std.proofs.Common.{◌≡◌, ℕ, ◌+◌, ◌≤◌, Bool, ◌&&◌, T, ltb, Decides, sym, refl, ap, ◌∙◌, subst, inl, inr, arith, Option, Some, None}
-use Rattle.std.proofs.lemmas.Bool.{cases_Bool, cases_lt, cond-true, cond-false, lt-ltb, le-ltb, ltb-true}
+use Rattle.std.proofs.Common.{◌≡◌, ℕ, ◌+◌, ◌≤◌, Bool, ◌&&◌, T, ltb, Decides, sym, refl, ap, ◌∙◌, subst, inl, inr, arith, Option, Some, None, true, false, MatchOption, ◌/◌}
+use Rattle.std.specs.Bool.{then_some}
+use Rattle.std.proofs.lemmas.Bool.{cases_Bool, cases_lt, cond-true, cond-false, lt-ltb, le-ltb, ltb-true, ltb-false}
 use Rattle.quorum.proofs.Counts.{both, yes, is_yes, one, count_same, count_within, count_some, count_zero, count_more, lowest_is, lowest_some}
 use Rattle.values.specs.Entries.{present, carries, SameEntry, presence, matches}
 use Rattle.values.specs.Majority.{Most, IsMajority, wins, winner, majority, Voted}
@@ -98,3 +99,15 @@ module _ {V M : Type 0} (means : V → M) (alike : V → V → Bool) (law : (x y
 
     pub led_missing : (holder : Option V) (margin : ℕ) → Leads alike n entry holder margin → holder ≡ None → (x : V) → Most alike n entry x → ⊥
     led_missing holder margin led p x most = subst (λ (e : Option V). T (carries alike x e)) p (most_leads holder margin led x most)
+
+    -- the leading value, kept where more than half of the present entries carry it
+    pub kept_lead : (holder : Option V) (margin : ℕ) (r : Option V) (passes : V → Bool → Type 0) → Leads alike n entry holder margin
+        → MatchOption holder (r ≡ None) (λ x. (b : Bool) × passes x b × (r ≡ then_some b x)) → ((x : V) (b : Bool) → passes x b → b ≡ ltb (presence n entry / 2) (matches alike x n entry))
+        → Voted means alike n entry r
+    kept_lead None margin r passes led e is = subst (Voted means alike n entry) (sym e) (voted None (led_missing None margin led refl))
+    kept_lead (Some x) margin r passes led (true, t, e) is =
+        let more = ltb-true (presence n entry / 2) (matches alike x n entry) (sym (is x true t)) in
+        subst (Voted means alike n entry) (sym e) (voted (Some x) (omega (arith, more)))
+    kept_lead (Some x) margin r passes led (false, t, e) is =
+        let less = ltb-false (presence n entry / 2) (matches alike x n entry) (sym (is x false t)) in
+        subst (Voted means alike n entry) (sym e) (voted None (led_fails (Some x) margin led x refl (λ most. omega (arith, less))))

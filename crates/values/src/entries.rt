@@ -60,10 +60,7 @@ pub fn presence<E: Entries>(entries: &E) -> usize
 pub fn carries<V: Value>(e: &Entry<V>, x: &V) -> bool
     ensures { result ≡ carried V.Value.alike x.now e.now }
 {
-    match e {
-        Some(y) => x.same(y),
-        None => false,
-    }
+    e.as_ref().is_some_and(|y| x.same(y))
 }
 
 // How many entries carry the value x.
@@ -123,13 +120,8 @@ fn leader<E: Entries>(entries: &E) -> Lead<E::Item>
 pub fn majority<E: Entries>(entries: &E) -> Entry<E::Item>
     ensures { Voted E.Item.Value.means E.Item.Value.alike (E.Entries.size entries.now) (E.Entries.entry entries.now) result }
 {
-    let lead = leader(entries);
-    if let Some(x) = lead.holder {
-        let all = presence(entries);
-        let carried = matches(entries, &x);
-        if carried > all / 2 {
-            return Some(x);
-        }
-    }
-    None
+    let all = presence(entries);
+    leader(entries)
+        .holder
+        .filter(|x| matches(entries, x) > all / 2)
 }

@@ -23,14 +23,14 @@ loop-j-preserved g c =
     let n = c.args.self.now.n in
     let j = c.loop-j.j in
     let within : j < n = omega (arith, length-take n c.args.table.now) in
-    let read : c.voice-item.result ≡ slice_index_or c.args.table.now j g.V.Voice.absent =
-    from_front c.args.table.now n j _ _ within c.requires.speakers c.voice-item.is in
-    let said : c.say.result ≡ g.V.Voice.aloud (slice_index_or c.args.table.now j g.V.Voice.absent) = c.say.ensures ∙ ap g.V.Voice.aloud read in
+    let read : c.message-item.result ≡ slice_index_or c.args.table.now j g.V.Message.absent =
+    from_front c.args.table.now n j _ _ within c.requires.speakers c.message-item.is in
+    let said : c.say.result ≡ g.V.Message.aloud (slice_index_or c.args.table.now j g.V.Message.absent) = c.say.ensures ∙ ap g.V.Message.aloud read in
     counted_more c.loop-j.tally j _ c.loop-j.invariant c.with-tally.result c.heard.result c.with-tally.ensures.yes c.with-tally.ensures.no (cc c.heard.ensures)
 
 pub returns : goal.returns
 returns g c =
     let n = c.args.self.now.n in
-    let voices = λ (j : ℕ). g.V.Voice.aloud (slice_index_or c.args.table.now j g.V.Voice.absent) in
+    let voices = λ (j : ℕ). g.V.Message.aloud (slice_index_or c.args.table.now j g.V.Message.absent) in
     let all : c.loop-j.j ≡ n = omega (arith, length-take n c.args.table.now) in
     counted_is c.loop-j.tally n _ (subst (λ (m : ℕ). Counted c.loop-j.tally m (heard (given c.args.self.now) c.args.at voices c.args.i)) all c.loop-j.invariant)

@@ -6,4 +6,4 @@ use Rattle.layers.proofs.layer.Instance.tally.Given as goal
 
 -- the tally is of the places before j
 abbrev pub invariant-loop-j : goal.invariant-loop-j
-invariant-loop-j g l = Counted l.tally l.j (heard (given l.self) l.at (λ j. g.V.Voice.aloud (slice_index_or l.table j g.V.Voice.absent)) l.i)
+invariant-loop-j g l = Counted l.tally l.j (heard (given l.self) l.at (λ j. g.V.Message.aloud (slice_index_or l.table j g.V.Message.absent)) l.i)

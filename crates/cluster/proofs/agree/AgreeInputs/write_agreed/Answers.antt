@@ -1,7 +1,7 @@
 use Rattle.std.proofs.Common.{rules}
 use Rattle.cluster.specs.Writing.{AgreesOn}
 use Rattle.cluster.proofs.Wrote.{wrote_as}
-use Rattle.cluster.proofs.agree.Grounds.write_agreed.Goals as goal
+use Rattle.cluster.proofs.agree.AgreeInputs.write_agreed.Goals as goal
 
 pub returns : goal.returns
 returns g c =

@@ -2,48 +2,21 @@
 // Each line of the input is a cycle: the sensors' readings, or `-` for one that gives none.
 #![tactic(auto)]
 
-ghost use Rattle.std.specs.Iterator.{IsFinite};
-
 use agreement::deliver;
 use anyhow::{Context, Result, ensure};
-use applications::wheel::{Count, Torque};
+use applications::wheel::Count;
+use engine::show_engine;
 use layers::king::PhaseKing;
 use processors::{Processor, cycle};
 use quorum::is_set;
 use selections::NO_SENSOR;
-use std::fmt::{self, Display};
+use show::{Reading, show_row, show_vote};
 use values::Entry;
 
 mod agreement;
+mod engine;
 mod processors;
-
-// A reading as a line of the input has it.
-#[derive(Clone, Copy)]
-struct Reading(Entry<Count>);
-
-impl Display for Reading {
-    fn fmt<W: fmt::Write>(&self, f: &mut fmt::Formatter<W>) -> fmt::Result {
-        match self.0 {
-            Some(x) => write!(f, "{x}"),
-            None => f.write_str("-"),
-        }
-    }
-}
-
-// A line of the output: what it tells of, and its items.
-fn show_row<I: Iterator + Drop>(rt: &HostRuntime, title: &str, items: I) -> Result<()>
-where
-    I::Item: Display + Drop,
-    requires can { I.can_next items }
-    requires ends { IsFinite (I.remaining items) }
-{
-    print!(rt; "  {title}")?;
-    for item in items {
-        print!(rt; " {item}")?;
-    }
-    println!(rt; "")?;
-    Ok(())
-}
+mod show;
 
 // A row of answers, one for each sound replica.
 fn show_bits(rt: &HostRuntime, title: &str, bits: u16) -> Result<()> {
@@ -88,14 +61,6 @@ fn readings_of(line: &str) -> Result<[Entry<Count>; 3]> {
     Ok(readings)
 }
 
-fn show_vote(rt: &HostRuntime, vote: Entry<Torque>) -> Result<()> {
-    match vote {
-        Some(torque) => println!(rt; "  vote {torque}")?,
-        None => println!(rt; "  no majority: safe mode")?,
-    }
-    Ok(())
-}
-
 // Runs one cycle and prints it.
 fn show_cycle(
     rt: &HostRuntime,
@@ -135,5 +100,6 @@ fn main(rt: HostRuntime) -> Result<()> {
     };
     let mut processors = [sound, sound, sound, liar];
     show_agreement(&rt)?;
-    run_cycles(&rt, &mut processors)
+    run_cycles(&rt, &mut processors)?;
+    show_engine(&rt)
 }

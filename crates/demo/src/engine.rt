@@ -14,7 +14,6 @@ use selections::NO_SENSOR;
 use selections::mid_value::MidValue;
 use std::alloc::{AllocError, Global};
 use values::Entry;
-use values::entries::entry_at;
 
 const N: usize = 7;
 

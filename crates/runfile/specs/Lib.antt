@@ -1,0 +1,5 @@
+pub mod Faults
+pub mod Numbers
+pub mod Headers
+pub mod Levels
+pub mod Records

@@ -3,3 +3,4 @@ pub mod Numbers
 pub mod Headers
 pub mod Levels
 pub mod Records
+pub mod Bodies

@@ -1,0 +1,21 @@
+-- Bodies: entries, one after another, each a presence byte and a thing of fixed width.
+use Rattle.std.specs.Prelude.{◌≡◌, ℕ, ◌+◌, ◌*◌, ◌<◌, ◌==◌, cond, List, length, get_or, take, drop, Option, Some, None, Result, Ok, Err}
+use Rattle.std.specs.List.{slice_range}
+use Rattle.std.specs.Option.{option_map}
+use Rattle.runfile.specs.declared.fault.Fault.{Fault}
+use Rattle.runfile.specs.declared.fault.Question.TheVariants.{Length, Presence}
+use Rattle.runfile.specs.Faults.{fault_at}
+
+module _ {W : Type 0} (size : ℕ) (decoded : List ℕ → Option (Option W)) where
+  -- what one entry's bytes say, an entry or nothing: 0 is a missing one, 1 a thing, and any other presence byte none
+  abbrev pub entry_of : List ℕ → Option (Option W)
+  entry_of bytes = cond (get_or bytes 0 0 == 0) (Some None) (cond (get_or bytes 0 0 == 1) (decoded (take size (drop 1 bytes))) None)
+
+  -- the entry i of a body
+  abbrev pub entry_in : List ℕ → ℕ → Option (Option W)
+  entry_in body i = entry_of (slice_range body (i * (size + 1)) (i * (size + 1) + (size + 1)))
+
+-- a table of entries decoded from a body: its entries are those of the body; or some entry of the body is none, which is the fault, and the table is left free but for its length
+abbrev pub Decoded : {X W : Type 0} (says : X → W) (size : ℕ) (decoded : List ℕ → Option (Option W)) (body : List ℕ) (at n : ℕ) (after : List (Option X)) → Result Unit Fault → Type 0
+Decoded says size decoded body at n after (Ok _) = (i : ℕ) → i < n → Some (option_map says (get_or after i None)) ≡ entry_in size decoded body i
+Decoded says size decoded body at n after (Err e) = (e ≡ fault_at Presence at) × ((i : ℕ) × (i < n) × (entry_in size decoded body i ≡ None))

@@ -9,5 +9,5 @@ pub decoded_more : {X W : Type 0} (says : X → W) (entries : ℕ → Option (Op
     (j : ℕ) → j < i + 1 → Some (option_map says (get_or (slice_set table i e) j None)) ≡ entries j
 decoded_more says entries table i e l h a =
     below_more (λ j. Some (option_map says (get_or (slice_set table i e) j None)) ≡ entries j) i
-        (λ j k. ap (λ x. Some (option_map says x)) (get_or-set_other table i j e None (λ q. omega (arith, k, q))) ∙ h j k)
-        (ap (λ x. Some (option_map says x)) (get_or-set_same table i e None l) ∙ a)
+    (λ j k. ap (λ x. Some (option_map says x)) (get_or-set_other table i j e None (λ q. omega (arith, k, q))) ∙ h j k)
+    (ap (λ x. Some (option_map says x)) (get_or-set_same table i e None l) ∙ a)

@@ -1,5 +1,5 @@
 -- The header: its questions in their order, and what it then says.
-use Rattle.std.specs.Prelude.{ℕ, ℤ, ◌+◌, Bool, ◌&&◌, ◌==◌, cond, leb, List, length, get_or, Result, Ok, Err, Float}
+use Rattle.std.specs.Prelude.{ℕ, ℤ, Bool, ◌&&◌, ◌==◌, cond, leb, List, length, get_or, Result, Ok, Err, Float}
 use Rattle.std.specs.Int.{w32, cast_signed}
 use Rattle.runfile.specs.declared.fault.Fault.{Fault}
 use Rattle.runfile.specs.declared.fault.Question.TheVariants.{Bytes, Magic, Version, Kinds, Zeros, Start as Starting}

@@ -1,9 +1,9 @@
 // What the records are given: entries, decoded into lent tables.
-ghost use Rattle.std.specs.Prelude.{◌≡◌, ℕ, ◌+◌, ◌*◌, ◌<◌, List, length, get_or, Option, Some, None, ℤ, cond, nat_lt, Float};
+ghost use Rattle.std.specs.Prelude.{◌≡◌, ℕ, ◌+◌, ◌*◌, ◌^◌, ◌<◌, ◌≤◌, List, length, get_or, Option, Some, None, ℤ, cond, nat_lt, Float};
 ghost use Rattle.std.specs.Int.{w16, w32, cast_signed};
-ghost use Rattle.std.specs.Option.{option_map};
+ghost use Rattle.std.specs.Option.{option_map, MatchOption};
 ghost use Rattle.applications.specs.Thrusts.{code_of};
-ghost use Rattle.runfile.specs.Bodies.{entry_of, Decoded};
+ghost use Rattle.runfile.specs.Bodies.{entry_of, Decoded, EntriesRead, WordsRead};
 ghost use Rattle.runfile.specs.Levels.{level_in};
 ghost use Rattle.runfile.specs.Numbers.{number_at};
 
@@ -137,4 +137,41 @@ fn fill<T: Encoded>(table: &mut [Entry<T>], body: &[u8], at: usize) -> Result<()
         table[i] = read_entry(bytes).ok_or(Question::Presence.fault(at))?;
     }
     Ok(())
+}
+
+// How many bytes so many entries take.
+fn extent<T: Encoded>(count: usize) -> Option<usize>
+    ensures { MatchOption result (2 ^ 64 ≤ count * (T.Encoded.size + 1)) (λ bytes. bytes ≡ count * (T.Encoded.size + 1)) }
+{
+    count.checked_mul(usize::from(T::width()) + 1)
+}
+
+// The entries of an intake or a filter: asks how long the body is, and decodes it into the table.
+pub fn read_entries<T: Encoded>(table: &mut [Entry<T>], body: &[u8], at: usize) -> Result<(), Fault>
+    ensures { EntriesRead T.Encoded.says T.Encoded.size T.Encoded.decoded body.now at table.old table.new result }
+{
+    if extent::<T>(table.len()) != Some(body.len()) {
+        return Err(Question::Length.fault(at));
+    }
+    fill(table, body, at)
+}
+
+// The words of a commit, states and then commands: asks how long the body is, and decodes it into the two tables.
+pub fn read_words<S: Encoded, C: Encoded>(
+    states: &mut [Entry<S>],
+    commands: &mut [Entry<C>],
+    body: &[u8],
+    at: usize,
+) -> Result<(), Fault>
+    ensures { WordsRead S.Encoded.says S.Encoded.size S.Encoded.decoded C.Encoded.says C.Encoded.size C.Encoded.decoded body.now at states.old states.new commands.old commands.new result }
+{
+    let fault = Question::Length.fault(at);
+    let front = extent::<S>(states.len()).ok_or(fault)?;
+    let back = extent::<C>(commands.len()).ok_or(fault)?;
+    if front.checked_add(back) != Some(body.len()) {
+        return Err(fault);
+    }
+    let (front, back) = body.split_at(front);
+    fill(states, front, at)?;
+    fill(commands, back, at)
 }

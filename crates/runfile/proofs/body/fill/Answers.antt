@@ -9,7 +9,7 @@ loop-i-preserved g c =
     let wide : c.from-size.result + 1 ≡ g.T.Encoded.size + 1 = search rules in
     let read : c.read_entry.result ≡ Some c.in_ok-table.field-0 = search rules in
     let told : Some (option_map g.T.Encoded.says c.in_ok-table.field-0) ≡ entry_in g.T.Encoded.size g.T.Encoded.decoded c.args.body.now c.loop-i.i =
-        ap (option_map (option_map g.T.Encoded.says)) (sym read) ∙ c.read_entry.ensures
-        ∙ ap (λ s. entry_of g.T.Encoded.size g.T.Encoded.decoded (slice_range c.args.body.now (c.loop-i.i * s) (c.loop-i.i * s + s))) wide in
+    ap (option_map (option_map g.T.Encoded.says)) (sym read) ∙ c.read_entry.ensures
+    ∙ ap (λ s. entry_of g.T.Encoded.size g.T.Encoded.decoded (slice_range c.args.body.now (c.loop-i.i * s) (c.loop-i.i * s + s))) wide in
     let more = decoded_more g.T.Encoded.says (entry_in g.T.Encoded.size g.T.Encoded.decoded c.args.body.now) c.loop-i.table c.loop-i.i c.in_ok-table.field-0 (search rules) (c.loop-i.invariant.1) told in
     search rules

@@ -1,4 +1,4 @@
-use Rattle.std.proofs.Common.{◌≡◌, ℕ, ◌+◌, ◌<◌, length, get_or, Some, None}
+use Rattle.std.proofs.Common.{◌≡◌, ℕ, ◌<◌, length, get_or, Some, None}
 use Rattle.std.specs.Option.{option_map}
 use Rattle.runfile.specs.Bodies.{entry_in}
 use Rattle.runfile.proofs.body.fill.Given as goal

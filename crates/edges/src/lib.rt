@@ -8,6 +8,8 @@ mod damped;
 #[cfg(test)]
 mod quorums;
 #[cfg(test)]
+mod reading;
+#[cfg(test)]
 mod selecting;
 #[cfg(test)]
 mod wheel;

@@ -21,7 +21,12 @@ const F: usize = 2;
 
 const SENSORS: usize = 4;
 
-const EACH: usize = 28;
+// Places for each replica and sensor, for each two replicas, and for each two and each sensor.
+const EACH: usize = N * SENSORS;
+
+const PAIRS: usize = N * N;
+
+const HEARD: usize = PAIRS * SENSORS;
 
 // Replicas 5 and 6 are faulty.
 const SOUND: usize = 5;
@@ -64,7 +69,7 @@ enum Ending {
 // A cycle: what each sensor gives, the byte that the faulty replicas say in the agreement, and how it ends.
 #[derive(Clone, Copy)]
 struct Cycle {
-    sensors: [Faces<Entry<Count>>; 4],
+    sensors: [Faces<Entry<Count>>; SENSORS],
     words: Faces<u8>,
     ending: Ending,
 }
@@ -72,30 +77,30 @@ struct Cycle {
 // The lent tables.
 #[derive(Drop)]
 struct Tray {
-    state: [Count; 7],
-    own: [Entry<Count>; 28],
-    agreed: [Entry<Count>; 28],
-    run: [Count; 28],
-    accept: [bool; 28],
-    yes: [u16; 28],
-    heard: [Entry<Count>; 196],
-    candidates: [u8; 7],
-    chosen: [u8; 7],
+    state: [Count; N],
+    own: [Entry<Count>; EACH],
+    agreed: [Entry<Count>; EACH],
+    run: [Count; EACH],
+    accept: [bool; EACH],
+    yes: [u16; EACH],
+    heard: [Entry<Count>; HEARD],
+    candidates: [u8; N],
+    chosen: [u8; N],
 }
 
 impl Tray {
     fn new() -> Tray {
         let zero = Count { value: 0 };
         Tray {
-            state: [zero; 7],
-            own: [None; 28],
-            agreed: [None; 28],
-            run: [zero; 28],
-            accept: [false; 28],
-            yes: [0; 28],
-            heard: [None; 196],
-            candidates: [0; 7],
-            chosen: [0; 7],
+            state: [zero; N],
+            own: [None; EACH],
+            agreed: [None; EACH],
+            run: [zero; EACH],
+            accept: [false; EACH],
+            yes: [0; EACH],
+            heard: [None; HEARD],
+            candidates: [0; N],
+            chosen: [0; N],
         }
     }
 
@@ -149,8 +154,8 @@ impl Told {
             words: (0..size.saturating_mul(EACH))
                 .map(|at| cycle.words.to(at % N))
                 .collect(heap)?,
-            states: vec![in heap; Some(Count { value: 7 }); 49]?,
-            commands: vec![in heap; Some(Torque { value: 7 }); 7]?,
+            states: vec![in heap; Some(Count { value: 7 }); PAIRS]?,
+            commands: vec![in heap; Some(Torque { value: 7 }); N]?,
         })
     }
 }

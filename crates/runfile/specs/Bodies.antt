@@ -7,6 +7,10 @@ use Rattle.runfile.specs.declared.fault.Question.TheVariants.{Length, Presence}
 use Rattle.runfile.specs.Faults.{fault_at}
 
 module _ {W : Type 0} (size : ℕ) (decoded : List ℕ → Option (Option W)) where
+  -- what so many bytes say, and nothing where there are more or fewer
+  abbrev pub sized : List ℕ → Option (Option W)
+  sized bytes = cond (length bytes == size) (decoded bytes) None
+
   -- what one entry's bytes say, an entry or nothing: 0 is a missing one, 1 a thing, and any other presence byte none
   abbrev pub entry_of : List ℕ → Option (Option W)
   entry_of bytes = cond (get_or bytes 0 0 == 0) (Some None) (cond (get_or bytes 0 0 == 1) (decoded (take size (drop 1 bytes))) None)

@@ -3,7 +3,7 @@ ghost use Rattle.std.specs.Prelude.{◌≡◌, ℕ, ◌+◌, ◌*◌, ◌^◌, �
 ghost use Rattle.std.specs.Int.{w16, w32, cast_signed};
 ghost use Rattle.std.specs.Option.{option_map, MatchOption};
 ghost use Rattle.applications.specs.Thrusts.{code_of};
-ghost use Rattle.runfile.specs.Bodies.{entry_of, Decoded, EntriesRead, WordsRead};
+ghost use Rattle.runfile.specs.Bodies.{sized, entry_of, Decoded, EntriesRead, WordsRead};
 ghost use Rattle.runfile.specs.Levels.{level_in};
 ghost use Rattle.runfile.specs.Numbers.{number_at};
 
@@ -30,9 +30,9 @@ pub trait Encoded: Copy {
     fn width() -> u8
         ensures { result ≡ size };
 
+    // Bytes of another number are no thing.
     fn decode(bytes: &[u8]) -> Option<Entry<Self>>
-        requires { length bytes.now ≡ size }
-        ensures { option_map (option_map says) result ≡ decoded bytes.now };
+        ensures { option_map (option_map says) result ≡ sized size decoded bytes.now };
 }
 
 // A wheel's reading or state: four bytes.
@@ -50,6 +50,9 @@ impl Encoded for Count {
     }
 
     fn decode(bytes: &[u8]) -> Option<Entry<Count>> {
+        if bytes.len() != 4 {
+            return None;
+        }
         let value = u32_at(bytes, 0).cast_signed();
         Some(Some(Count { value }))
     }
@@ -70,6 +73,9 @@ impl Encoded for Torque {
     }
 
     fn decode(bytes: &[u8]) -> Option<Entry<Torque>> {
+        if bytes.len() != 2 {
+            return None;
+        }
         let value = u16_at(bytes, 0).cast_signed();
         Some(Some(Torque { value }))
     }
@@ -90,6 +96,9 @@ impl Encoded for Level {
     }
 
     fn decode(bytes: &[u8]) -> Option<Entry<Level>> {
+        if bytes.len() != 8 {
+            return None;
+        }
         Some(level_of_bits(u64_at(bytes, 0)))
     }
 }
@@ -109,6 +118,9 @@ impl Encoded for Thrust {
     }
 
     fn decode(bytes: &[u8]) -> Option<Entry<Thrust>> {
+        if bytes.len() != 1 {
+            return None;
+        }
         Thrust::try_from(bytes[0]).ok().map(Some)
     }
 }

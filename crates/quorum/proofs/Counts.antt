@@ -1,10 +1,7 @@
 -- Laws of `count` and `lowest`.
-use Rattle.std.proofs.Common.{◌≡◌, ℕ, zero, suc, ◌+◌, ◌<◌, ◌≤◌, Bool, true, false, cond, not, ◌&&◌, T, sym, refl, ap, subst, inl, inr, le_refl, eq-zero-or-pos, add-one, Option, Some, None, MatchOption, unwrap_or, map, filter, length, List, [], ◌∷◌, slice_index_or, map-id, ◌∙◌, arith}
-use Rattle.std.specs.List.{sum_by, count_by, range_with_len}
-use Rattle.std.proofs.lemmas.List.FromFn.{sum_by-map-range_with_len_more}
-use Rattle.std.proofs.lemmas.List.Sums.{length-filter}
+use Rattle.std.proofs.Common.{◌≡◌, ℕ, zero, suc, ◌+◌, ◌<◌, ◌≤◌, Bool, true, false, cond, not, ◌&&◌, T, sym, refl, ap, subst, inl, inr, le_refl, eq-zero-or-pos, add-one, Option, Some, None, MatchOption, unwrap_or, arith}
 use native.Mathlib.Decide.{le_ind}
-use Rattle.std.proofs.lemmas.Bool.{cases_eq, cases_lt, not_from_false}
+use Rattle.std.proofs.lemmas.Bool.{cases_eq, cases_lt}
 use Rattle.quorum.specs.Counting.{count, lowest}
 use Rattle.quorum.specs.Laws.{CountingLaws, Lowest}
 
@@ -149,28 +146,6 @@ count_first (suc n) p = omega (arith, count_first n p)
 -- fewer indices, no larger count
 pub count_reach : (p : ℕ → Bool) (m n : ℕ) → m ≤ n → count m p ≤ count n p
 count_reach p m n h = le_ind (λ (k : ℕ). count m p ≤ count k p) (le_refl (count m p)) (λ k _ ih. rw (← add-one k) (omega (arith, count_more k p))) n h
-
-kept : (n : ℕ) (p : ℕ → Bool) → sum_by (λ i. one (p i)) (map (λ i. i) (range_with_len 0 n)) ≡ count n p
-kept zero p = sym (count_zero p)
-kept (suc n) p =
-    subst (λ (k : ℕ). sum_by (λ i. one (p i)) (map (λ i. i) (range_with_len 0 k)) ≡ count k p) (add-one n)
-    (omega (arith, sum_by-map-range_with_len_more (λ i. one (p i)) (λ i. i) 0 n n (omega arith), kept n p, count_more n p))
-
--- what a filter keeps of 0..n is as many as pass its test
-pub count_kept : (n : ℕ) (p : ℕ → Bool) → length (filter p (range_with_len 0 n)) ≡ count n p
-count_kept n p = length-filter p (range_with_len 0 n) ∙ ap (count_by p) (sym (map-id (range_with_len 0 n))) ∙ kept n p
-
--- what a filter keeps of a list is as many as its places that pass
-pub count_places : {A : Type 0} (xs : List A) (p : A → Bool) (d : A) → length (filter p xs) ≡ count (length xs) (λ i. p (slice_index_or xs i d))
-count_places [] p d = sym (count_zero _)
-count_places {A} (x ∷ xs) p d =
-    let first : count (suc (length xs)) (λ i. p (slice_index_or (x ∷ xs) i d)) ≡ one (p x) + count (length xs) (λ i. p (slice_index_or xs i d)) =
-    count_first (length xs) (λ i. p (slice_index_or (x ∷ xs) i d)) in
-    kept_more (p x) x (filter p xs) ∙ ap (λ (k : ℕ). one (p x) + k) (count_places xs p d) ∙ sym first
-  where
-    kept_more : (b : Bool) (y : A) (ys : List A) → length (cond b (y ∷ ys) ys) ≡ one b + length ys
-    kept_more true y ys = omega arith
-    kept_more false y ys = omega arith
 
 pub counting_laws : CountingLaws
 counting_laws = record { monotone = count_mono; complement = count_not; overlap = count_overlap; witness = count_some }

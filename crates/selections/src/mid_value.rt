@@ -6,6 +6,7 @@ ghost use Rattle.selections.specs.Picks.{Picked};
 ghost use Rattle.selections.specs.Middle.{mid_chooses};
 
 use crate::{NO_SENSOR, Selection};
+use quorum::count_of;
 use values::entries::{Entries, presence};
 use values::{Entry, Ordered};
 
@@ -36,11 +37,10 @@ impl<'a, R: Ordered> Ranking<'a, R> {
         requires { k < length self.now.readings.now }
         ensures { result ≡ rank_of R.Ordered.leq self.now.readings.now k }
     {
-        let reading = self.readings[k];
-        self.readings
-            .iter()
-            .filter(|e| at_most(e, &reading))
-            .count()
+        count_of(
+            self.readings.len(),
+            |j| at_most(&self.readings[j], &self.readings[k]),
+        )
     }
 
     // Whether sensor k is a candidate whose reading at least half of the candidates do not exceed.

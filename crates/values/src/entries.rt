@@ -5,6 +5,7 @@ ghost use Rattle.values.specs.Majority.{Voted};
 ghost use Rattle.values.specs.Lead.{Weighed, Leads};
 
 use crate::{Entry, Value};
+use quorum::count_of;
 
 // A row of entries: how many there are, and each by its position.
 pub trait Entries {
@@ -51,9 +52,7 @@ pub fn entry_at<V: Value>(entries: &[Entry<V>], i: usize) -> Entry<V>
 pub fn presence<E: Entries>(entries: &E) -> usize
     ensures { result ≡ present_in (E.Entries.size entries.now) (E.Entries.entry entries.now) }
 {
-    (0..entries.len())
-        .filter(|i| entries.at(*i).is_some())
-        .count()
+    count_of(entries.len(), |i| entries.at(i).is_some())
 }
 
 // Whether an entry carries the value x.
@@ -67,9 +66,7 @@ pub fn carries<V: Value>(e: &Entry<V>, x: &V) -> bool
 pub fn matches<E: Entries>(entries: &E, x: &E::Item) -> usize
     ensures { result ≡ matches_in E.Item.Value.alike x.now (E.Entries.size entries.now) (E.Entries.entry entries.now) }
 {
-    (0..entries.len())
-        .filter(|i| carries(&entries.at(*i), x))
-        .count()
+    count_of(entries.len(), |i| carries(&entries.at(i), x))
 }
 
 // The only value that can still have more than half of the entries weighed so far, and what it is ahead by.
@@ -120,8 +117,8 @@ fn leader<E: Entries>(entries: &E) -> Lead<E::Item>
 pub fn majority<E: Entries>(entries: &E) -> Entry<E::Item>
     ensures { Voted E.Item.Value.means E.Item.Value.alike (E.Entries.size entries.now) (E.Entries.entry entries.now) result }
 {
-    let all = presence(entries);
-    leader(entries)
-        .holder
-        .filter(|x| matches(entries, x) > all / 2)
+    leader(entries).holder.filter(|x| {
+        let all = presence(entries);
+        matches(entries, x) > all / 2
+    })
 }

@@ -5,7 +5,7 @@ ghost use Rattle.cluster.specs.Writing.{heard_row, heeded};
 
 use questions::Parameters;
 use quorum::is_set;
-use values::entries::{Entries, entry_at};
+use values::entries::Entries;
 use values::{Entry, Value};
 
 // What every replica heard from every other about every sensor.
@@ -55,7 +55,7 @@ impl<'a, T: Value> Entries for Row<'a, T> {
 
     fn at(&self, j: usize) -> Entry<T> {
         let Parameters { n, sensors, .. } = self.heard.parameters;
-        entry_at(self.heard.entries, (self.i * n + j) * sensors + self.k)
+        self.heard.entries.at((self.i * n + j) * sensors + self.k)
     }
 }
 

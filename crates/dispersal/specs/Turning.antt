@@ -1,11 +1,19 @@
 -- What becomes of a replica's state at commit.
-use Rattle.std.specs.Prelude.{◌≡◌, ℕ, Bool, true, false, cond, not, ◌&&◌, List, Option, Some, None}
+use Rattle.std.specs.Prelude.{◌≡◌, ℕ, ◌<◌, Bool, true, false, cond, not, ◌&&◌, List, Option, Some, None}
 use Rattle.quorum.specs.Counting.{bit}
 use Rattle.values.specs.Entries.{SameEntry}
 use Rattle.values.specs.Majority.{majority}
+use Rattle.protocol.specs.declared.Turn.{Turn}
+use Rattle.protocol.specs.declared.Turn.TheVariants.{Idle, Ran, Behind}
 use Rattle.protocol.specs.Turns.{turn_at, dispersal, goes_on, takes}
 use Rattle.dispersal.specs.declared.states.Next.{Next}
 use Rattle.dispersal.specs.declared.states.Next.TheVariants.{Stays, Runs, Takes}
+
+-- the place that a turn tells is below the bound
+abbrev pub RanBelow : ℕ → Turn → Type 0
+RanBelow bound Idle = Unit {0}
+RanBelow bound (Ran p) = p < bound
+RanBelow bound Behind = Unit {0}
 
 -- the state that it goes on with, if any
 abbrev pub next_of : {S : Type 0} → Next S → Option S

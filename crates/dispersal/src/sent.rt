@@ -1,9 +1,10 @@
 // What the replicas send, read where it lies and not copied together.
+ghost use Rattle.std.specs.Prelude.{◌≡◌, length};
 ghost use Rattle.protocol.specs.Turns.{sending};
 
 use crate::turns::Turns;
 use protocol::Turn;
-use values::entries::{Entries, entry_at};
+use values::entries::Entries;
 use values::{Application, Entry};
 
 // What is sent, by the sender: the commands of the states that are held, which are lent for less, since they were just written.
@@ -13,6 +14,8 @@ pub(crate) struct Sent<'a, 's, A: Application> {
     pub(crate) app: &'a A,
     pub(crate) state: &'s [A::State],
     pub(crate) commands: &'a [Entry<A::Command>],
+    ghost holds: { length state.now ≡ turns.parameters.n },
+    ghost said: { length commands.now ≡ turns.parameters.n },
 }
 
 impl<'a, 's, A: Application> Entries for Sent<'a, 's, A> {
@@ -28,11 +31,11 @@ impl<'a, 's, A: Application> Entries for Sent<'a, 's, A> {
 
     fn at(&self, j: usize) -> Entry<A::Command> {
         if !self.turns.parameters.is_sound(j) {
-            return entry_at(self.commands, j);
+            return self.commands.at(j);
         }
         match self.turns.of(j) {
             Turn::Behind => None,
-            Turn::Idle | Turn::Ran(_) => self.state.get(j).map(|s| self.app.command(s)),
+            Turn::Idle | Turn::Ran(_) => Some(self.app.command(&self.state[j])),
         }
     }
 }

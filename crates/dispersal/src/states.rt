@@ -32,10 +32,10 @@ impl<'a, S: Value> Dispersal<'a, S> {
         }
         match self.turns.of(i) {
             Turn::Idle => Next::Stays,
-            Turn::Ran(p) => self.run.get(p).copied().map_or(Next::Stays, Next::Runs),
+            Turn::Ran(p) => Next::Runs(self.run[p]),
             Turn::Behind => {
                 let received = Received {
-                    dispersal: *self,
+                    dispersal: self,
                     to: i,
                 };
                 majority(&received).map_or(Next::Stays, Next::Takes)

@@ -1,6 +1,7 @@
 // The turns of the replicas. That an index is below n each call asks: a type for it would say no more.
 ghost use Rattle.std.specs.Prelude.{◌≡◌, ◌*◌, ◌<◌, length};
 ghost use Rattle.protocol.specs.Turns.{turn_at};
+ghost use Rattle.dispersal.specs.Turning.{RanBelow};
 
 use protocol::Turn;
 use questions::Parameters;
@@ -20,7 +21,8 @@ impl<'a> Turns<'a> {
     // The turn of replica i.
     pub(crate) fn of(&self, i: usize) -> Turn
         requires { i < self.now.parameters.n }
-        ensures { result ≡ turn_at self.now.parameters.sensors self.now.accept.now self.now.chosen.now i }
+        ensures is { result ≡ turn_at self.now.parameters.sensors self.now.accept.now self.now.chosen.now i }
+        ensures within { RanBelow (self.now.parameters.n * self.now.parameters.sensors) result }
     {
         let c = self.chosen[i];
         if c == NO_SENSOR {

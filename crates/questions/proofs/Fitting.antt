@@ -75,7 +75,7 @@ granted_fit : (fit input : Bool) → granted ≡ stage_verdict fit input → fit
 granted_fit true input h = refl
 granted_fit false input h = absurd (granted≢refused 7 h)
 
-granted_input : (fit input : Bool) → granted ≡ stage_verdict fit input → input ≡ true
+pub granted_input : (fit input : Bool) → granted ≡ stage_verdict fit input → input ≡ true
 granted_input true true h = refl
 granted_input true false h = absurd (granted≢refused 8 h)
 granted_input false input h = absurd (granted≢refused 7 h)
